@@ -1,0 +1,106 @@
+-- "The shelf": its phys, how a new one starts, and how one of its phys is put back changed.
+use Prim.Native.Nat.{ℕ, min}
+use mathlib.Core.Bool.{Bool, true, false, cond}
+use mathlib.Core.List.{List, [], _∷_}
+use lib.Dec.{ltb}
+use lib.ListN.{getD, set, replicate}
+use Rattle.model.specs.declared.House.the-variants.{PhyNumber, PhyGroup, IllegalTable}
+use Rattle.model.specs.declared.Monitor.{Monitor}
+use Rattle.model.specs.declared.Outcome.{Outcome}
+use Rattle.model.specs.declared.Phy.{Phy}
+use Rattle.model.specs.declared.Shelf.{Shelf}
+use Rattle.model.specs.declared.Taken.{Taken}
+use Rattle.model.specs.declared.Taken.the-variants.{Done, NotDone}
+use Rattle.model.specs.Bytes.{zeros}
+use Rattle.model.specs.Tests.{check, within, allBelow, joinBelow}
+use Rattle.model.specs.Zone.{zoneGroup, legalTable}
+
+-- "1 to 24 phys, numbered from 0." A record has room for 24, so a shelf that no start made has no more than that either.
+abbrev pub phyNumber : Shelf → ℕ
+phyNumber s = min (s .number) 24
+
+abbrev pub exists : Shelf → ℕ → Bool
+exists s p = ltb p (phyNumber s)
+
+-- what stands where there is no phy
+abbrev pub noPhy : Phy
+noPhy =
+    record {
+      group = 0;
+      enabled = false;
+      errors = [];
+      monitors = [];
+      change0 = 0;
+      expander1 = 0;
+      expander2 = 0;
+    }
+
+abbrev pub phyAt : Shelf → ℕ → Phy
+phyAt s p = getD (s .phys) p noPhy
+
+-- the shelf with another record for phy p and another change count, and everything else as it was
+abbrev pub put : Shelf → ℕ → Phy → ℕ → Shelf
+put s p x count =
+    record {
+      number = s .number;
+      phys = set (s .phys) p x;
+      table = s .table;
+      identifier = s .identifier;
+      changes = count;
+      expander3 = s .expander3;
+      ses0 = s .ses0;
+    }
+
+-- "All phys are enabled, .. every other number is 0, and every monitor's source is 00h."
+abbrev pub freshMonitor : Monitor
+freshMonitor = record { source = 0x00; value = 0; threshold = 0 }
+
+abbrev pub freshPhy : ℕ → Phy
+freshPhy g =
+    record {
+      group = g;
+      enabled = true;
+      errors = replicate 4 0;
+      monitors = replicate 4 freshMonitor;
+      change0 = 0;
+      expander1 = 0;
+      expander2 = 0;
+    }
+
+-- "24 groups (those past the phy number are ignored)": places past the phy number hold a fresh phy of group 0.
+abbrev pub startGroup : ℕ → List ℕ → ℕ → ℕ
+startGroup n groups p = cond (ltb p n) (getD groups p 0) 0
+
+-- "the change count is 0001h, every other number is 0"
+unfoldable pub freshShelf : ℕ → List ℕ → List ℕ → List ℕ → Shelf
+freshShelf n groups table identifier =
+    record {
+      number = n;
+      phys = joinBelow 24 (λ p. freshPhy (startGroup n groups p) ∷ []);
+      table = table;
+      identifier = identifier;
+      changes = 0x0001;
+      expander3 = 0;
+      ses0 = 0;
+    }
+
+-- "A refused start gives no device": this shelf of no phys, in which nobody reaches anything, stands for it.
+unfoldable pub noShelf : Shelf
+noShelf = freshShelf 0 (zeros 24) (zeros 32) (zeros 8)
+
+-- What is told, with the shelf afterwards: the new one where it was done, the old one where it was refused.
+abbrev pub outcome : Taken → Shelf → Shelf → Outcome
+outcome Done old new = record { taken = Done; shelf = new }
+outcome (NotDone house) old new = record { taken = NotDone house; shelf = old }
+
+-- H1 "phy number not 1 to 24", H2 "a phy's group is above 31", H3 "table not legal"
+unfoldable pub startTaken : ℕ → List ℕ → List ℕ → Taken
+startTaken n groups table =
+    check (within 1 24 n) (NotDone PhyNumber)
+    (check (allBelow n (λ p. zoneGroup (getD groups p 0))) (NotDone PhyGroup)
+    (check (legalTable table) (NotDone IllegalTable)
+    Done))
+
+-- "A start takes phy number, 24 groups, table and identifier."
+unfoldable pub start : ℕ → List ℕ → List ℕ → List ℕ → Outcome
+start n groups table identifier = outcome (startTaken n groups table) noShelf (freshShelf n groups table identifier)

@@ -1,0 +1,83 @@
+-- "Frames": what an accepted 91h or 93h does to the shelf.
+use Prim.Native.Nat.{ℕ, suc}
+use mathlib.Core.Bool.{Bool, true, false, cond, _&&_, _||_}
+use mathlib.Core.List.{List, [], _∷_, map}
+use lib.Dec.{ltb, eqb}
+use lib.ListN.{replicate}
+use Rattle.model.specs.declared.Monitor.{Monitor}
+use Rattle.model.specs.declared.Phy.{Phy}
+use Rattle.model.specs.declared.Request.{Request}
+use Rattle.model.specs.declared.Request.the-variants.{ReportGeneral, ReportManufacturer, ReportBroadcast, ReportPhyErrorLog, ReportPhyEvent, PhyControl, ConfigurePhyEvent}
+use Rattle.model.specs.declared.Shelf.{Shelf}
+use Rattle.model.specs.Counting.{originate, withValue, phyWith, changeOn}
+use Rattle.model.specs.Request.{descriptorSource, descriptorThreshold}
+use Rattle.model.specs.Shelf.{phyAt, put}
+use Rattle.model.specs.Sources.{peak}
+
+-- 91h 05h: "sets the four error counts to 0"
+abbrev pub withoutErrors : Phy → Phy
+withoutErrors x =
+    phyWith x (x .enabled) (replicate 4 0) (x .monitors) (x .change0) (x .expander1) (x .expander2)
+
+-- 91h: "00h none; 01h link reset enables the phy and originates Change; 03h disable originates Change only if the phy was
+-- enabled; 05h sets the four error counts to 0."
+unfoldable pub controlled : ℕ → Phy → Phy
+controlled operation x =
+    cond (eqb operation 0x01) (changeOn true x)
+    (cond (eqb operation 0x03) (cond (x .enabled) (changeOn false x) x)
+    (cond (eqb operation 0x05) (withoutErrors x)
+    x))
+
+-- whether that originates Change, and so moves the change count too
+unfoldable pub controlChanges : ℕ → Phy → Bool
+controlChanges operation x = eqb operation 0x01 || eqb operation 0x03 && x .enabled
+
+-- 93h: "Descriptor i sets monitor i; a changed source sets the value to 0, the same source keeps it."
+unfoldable pub setMonitor : List ℕ → ℕ → Monitor → Monitor
+setMonitor frame i m =
+    record {
+      source = descriptorSource frame i;
+      value = cond (eqb (m .source) (descriptorSource frame i)) (m .value) 0;
+      threshold = descriptorThreshold frame i;
+    }
+
+-- the monitors from i on, of which those below d have a descriptor
+unfoldable pub setMonitors : List ℕ → ℕ → ℕ → List Monitor → List Monitor
+setMonitors frame d i [] = []
+setMonitors frame d i (m ∷ ms) = cond (ltb i d) (setMonitor frame i m) m ∷ setMonitors frame d (suc i) ms
+
+abbrev pub withMonitors : Phy → List Monitor → ℕ → Phy
+withMonitors x monitors expander2 =
+    phyWith x (x .enabled) (x .errors) monitors (x .change0) (x .expander1) expander2
+
+abbrev pub setOn : List ℕ → ℕ → Phy → Phy
+setOn frame d x = withMonitors x (setMonitors frame d 0 (x .monitors)) (x .expander2)
+
+-- "Then, if clearing, each of the phy's monitors on a peak source goes to 0, and if there is one such monitor or more,
+-- Expander 2h is originated once."
+unfoldable pub clearMonitor : Monitor → Monitor
+clearMonitor m = cond (peak (m .source)) (withValue m 0) m
+
+unfoldable pub anyPeak : List Monitor → Bool
+anyPeak [] = false
+anyPeak (m ∷ ms) = peak (m .source) || anyPeak ms
+
+abbrev pub clearOn : Phy → Phy
+clearOn x =
+    withMonitors x (map clearMonitor (x .monitors)) (cond (anyPeak (x .monitors)) (originate (x .expander2)) (x .expander2))
+
+unfoldable pub configured : List ℕ → ℕ → Bool → Phy → Phy
+configured frame d clear x = cond clear (clearOn (setOn frame d x)) (setOn frame d x)
+
+-- The shelf after an accepted request. Reads change nothing.
+unfoldable pub effect : Shelf → List ℕ → Request → Shelf
+effect s frame ReportGeneral = s
+effect s frame ReportManufacturer = s
+effect s frame (ReportBroadcast kind) = s
+effect s frame (ReportPhyErrorLog p) = s
+effect s frame (ReportPhyEvent p) = s
+effect s frame (PhyControl expected p operation) =
+    put s p (controlled operation (phyAt s p))
+    (cond (controlChanges operation (phyAt s p)) (originate (s .changes)) (s .changes))
+effect s frame (ConfigurePhyEvent expected clear p d) =
+    put s p (configured frame d clear (phyAt s p)) (s .changes)

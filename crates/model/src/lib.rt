@@ -1,0 +1,134 @@
+// The model of one leased shelf: its records and enums, in the words of document 01.
+//
+// There is no function here. What the records and enums mean is in specs/, one file to a
+// heading of document 01; what follows from that is in proofs/.
+
+// A monitor has an event source, a 32-bit value and a 32-bit threshold.
+pub struct Monitor {
+    pub source: u8,
+    pub value: u32,
+    pub threshold: u32,
+}
+
+// Per phy: its group, enabled or not, four error counts, four monitors, three broadcast counts.
+pub struct Phy {
+    pub group: u32,
+    pub enabled: bool,
+    // invalid dwords, disparity errors, lost synchronization, reset problems
+    pub errors: [u32; 4],
+    pub monitors: [Monitor; 4],
+    // Change reason 0h
+    pub change0: u16,
+    // Expander 1h: a peak has reached its threshold
+    pub expander1: u16,
+    // Expander 2h: peaks have been cleared
+    pub expander2: u16,
+}
+
+// The shelf: its phys, the permission table, and what is device wide.
+pub struct Shelf {
+    // the phy number, 1 to 24
+    pub number: u32,
+    pub phys: [Phy; 24],
+    // thirty-two rows, one for each zone group
+    pub table: [u32; 32],
+    // the enclosure identifier
+    pub identifier: [u8; 8],
+    // the expander change count
+    pub changes: u16,
+    // Expander 3h: reduced functionality, under FFh
+    pub expander3: u16,
+    // SES 0h, under FFh
+    pub ses0: u16,
+}
+
+// The house refusals, H1 to H9 in this order; `houseNumber` gives each its number.
+pub enum House {
+    PhyNumber,
+    PhyGroup,
+    IllegalTable,
+    SourceGroup,
+    ShortBuffer,
+    BadFrame,
+    NoSuchPhy,
+    EventSource,
+    Amount,
+}
+
+// The function results by their T10 names; `resultCode` gives each its code.
+pub enum FunctionResult {
+    Accepted,
+    UnknownSmpFunction,
+    SmpFunctionFailed,
+    InvalidRequestFrameLength,
+    InvalidExpanderChangeCount,
+    PhyDoesNotExist,
+    UnknownPhyOperation,
+    PhyVacant,
+    UnknownPhyEventSource,
+    SmpZoneViolation,
+}
+
+// A request frame as it was read: one variant to a function, with the bytes that it names.
+// The descriptors of a 93h stay in the frame; `number` says how many there are.
+pub enum Request {
+    ReportGeneral,
+    ReportManufacturer,
+    ReportBroadcast {
+        kind: u8,
+    },
+    ReportPhyErrorLog {
+        phy: u8,
+    },
+    ReportPhyEvent {
+        phy: u8,
+    },
+    PhyControl {
+        expected: u16,
+        phy: u8,
+        operation: u8,
+    },
+    ConfigurePhyEvent {
+        expected: u16,
+        clear: bool,
+        phy: u8,
+        number: u8,
+    },
+}
+
+// What judging one request frame alone yields: the read request, a house refusal or a failed result.
+pub enum Judged {
+    Asked(Request),
+    NoFrame(House),
+    Fails(FunctionResult),
+}
+
+// What a start or a report is told: done, or the house refusal.
+pub enum Taken {
+    Done,
+    NotDone(House),
+}
+
+// What a start or a report comes to: what is told, and the shelf afterwards.
+pub struct Outcome {
+    pub taken: Taken,
+    pub shelf: Shelf,
+}
+
+// The answer to a reach query: the set of phys as a 32-bit number and how many they are, or H4.
+pub enum Reach {
+    Reaches { phys: u32, number: u32 },
+    NoReach(House),
+}
+
+// The answer to a request: the length of the response in the lent buffer, or the house refusal.
+pub enum Answer {
+    Response(usize),
+    NoResponse(House),
+}
+
+// What a request comes to: its answer, and the shelf afterwards.
+pub struct Served {
+    pub answer: Answer,
+    pub shelf: Shelf,
+}
