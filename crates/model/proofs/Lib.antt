@@ -1,1 +1,4 @@
+pub mod Computes
+pub mod Holds
 pub mod Cases
+pub mod Vectors

@@ -18,9 +18,11 @@ use Rattle.model.specs.Server.{Reply, Refuses, Sends, handle}
 use Rattle.model.specs.Shelf.{phyAt, put}
 use Rattle.model.specs.ShelfW.{shelfW}
 
--- What is asked at the end of a case: a request from a source group, the reach of one, or some numbers of the shelf.
+-- What is asked at the end of a case: a request from a source group, with a buffer of 1,028 bytes or of another length that is
+-- named first, the reach of a source group, or some numbers that the shelf gives.
 pub data Question : Type 0 where
   Send : ℕ → List ℕ → Question
+  Lend : ℕ → ℕ → List ℕ → Question
   ReachOf : ℕ → Question
   Look : (Shelf → List ℕ) → Question
 
@@ -47,9 +49,9 @@ abbrev pub ofReach : Reach → Seen
 ofReach (Reaches phys number) = Set phys number
 ofReach (NoReach house) = H (houseNumber house)
 
--- A request is lent a buffer of 1,028 bytes.
 abbrev pub find : Shelf → Question → Seen
 find s (Send g frame) = ofReply (handle s g frame 1028 .reply)
+find s (Lend room g frame) = ofReply (handle s g frame room .reply)
 find s (ReachOf g) = ofReach (reachQuery s g)
 find s (Look at) = Numbers (at s)
 

@@ -4,6 +4,8 @@
 use Prim.Native.Nat.{ℕ}
 use Rattle.model.specs.declared.House.{House}
 use Rattle.model.specs.declared.House.the-variants.{PhyNumber, PhyGroup, IllegalTable, SourceGroup, ShortBuffer, BadFrame, NoSuchPhy, EventSource, Amount}
+use Rattle.model.specs.declared.Taken.{Taken}
+use Rattle.model.specs.declared.Taken.the-variants.{Done, NotDone}
 
 abbrev pub houseNumber : House → ℕ
 houseNumber PhyNumber = 1
@@ -15,3 +17,8 @@ houseNumber BadFrame = 6
 houseNumber NoSuchPhy = 7
 houseNumber EventSource = 8
 houseNumber Amount = 9
+
+-- what a start or a report is told, as a number: 0 for done
+abbrev pub takenNumber : Taken → ℕ
+takenNumber Done = 0
+takenNumber (NotDone house) = houseNumber house

@@ -1,1 +1,369 @@
--- later
+-- More cases of the same kind as document 01's, worked out by hand from its sentences: where it says "Easily got wrong", and at the
+-- ends of each rule. `proofs/Vectors` has the theorem that all hold.
+use Prim.Native.Nat.{ℕ, _+_}
+use mathlib.Core.Bool.{cond}
+use mathlib.Core.List.{List, [], _∷_, _++_}
+use lib.ListN.{replicate, set}
+use Rattle.model.specs.declared.Monitor.{Monitor}
+use Rattle.model.specs.declared.Shelf.{Shelf}
+use Rattle.model.specs.Bytes.{zeros, text}
+use Rattle.model.specs.Cases.{Case, Send, Lend, Look, H, Bytes, Numbers, fresh, on, sent}
+use Rattle.model.specs.Counting.{phyWith}
+use Rattle.model.specs.House.{takenNumber}
+use Rattle.model.specs.Reply.{errorAt, monitorAt}
+use Rattle.model.specs.Reports.{event, linkChange, withDevice}
+use Rattle.model.specs.Runs.{Operation, Event, LinkChange, ReducedFunctionality, Ses}
+use Rattle.model.specs.Server.{lentAfter}
+use Rattle.model.specs.Shelf.{phyAt, put, start}
+use Rattle.model.specs.ShelfW.{shelfW, groupsW, tableW, identifierW}
+
+-- ---- Frames
+
+-- 11h, 14h: function, byte 3, phy
+abbrev pub readPhy : ℕ → ℕ → ℕ → List ℕ
+readPhy function byte3 p = 0x40 ∷ function ∷ 0x00 ∷ byte3 ∷ 0x00 ∷ 0x00 ∷ 0x00 ∷ 0x00 ∷ 0x00 ∷ p ∷ 0x00 ∷ 0x00 ∷ []
+
+-- 06h: type
+abbrev pub readBroadcasts : ℕ → List ℕ
+readBroadcasts kind = 0x40 ∷ 0x06 ∷ kind ∷ 0x00 ∷ []
+
+-- 91h: byte 3, the low byte of the expected count, phy, operation
+abbrev pub control : ℕ → ℕ → ℕ → ℕ → List ℕ
+control byte3 expected p operation =
+    (0x40 ∷ 0x91 ∷ 0x00 ∷ byte3 ∷ 0x00 ∷ expected ∷ 0x00 ∷ 0x00 ∷ 0x00 ∷ p ∷ operation ∷ []) ++ zeros 29
+
+-- 93h: byte 3, the low byte of the expected count, byte 6, phy, number of descriptors, and these
+abbrev pub configure : ℕ → ℕ → ℕ → ℕ → ℕ → List ℕ → List ℕ
+configure byte3 expected byte6 p d descriptors =
+    (0x40 ∷ 0x93 ∷ 0x00 ∷ byte3 ∷ 0x00 ∷ expected ∷ byte6 ∷ 0x00 ∷ 0x00 ∷ p ∷ 0x00 ∷ d ∷ []) ++ descriptors
+
+-- a descriptor of a 93h: source, and the last byte of the threshold
+abbrev pub watch : ℕ → ℕ → List ℕ
+watch source threshold = 0x00 ∷ 0x00 ∷ 0x00 ∷ source ∷ 0x00 ∷ 0x00 ∷ 0x00 ∷ threshold ∷ []
+
+-- a response of four bytes: function, result
+abbrev pub short : ℕ → ℕ → List ℕ
+short function result = 0x41 ∷ function ∷ result ∷ 0x00 ∷ []
+
+-- a descriptor of a 06h response: phy, reason, and the two bytes of the count
+abbrev pub entry : ℕ → ℕ → ℕ → ℕ → List ℕ
+entry p reason high low = p ∷ 0x00 ∷ reason ∷ 0x00 ∷ high ∷ low ∷ 0x00 ∷ 0x00 ∷ []
+
+-- ---- What is looked at, always of phy 0
+
+abbrev pub monitorNumbers : Monitor → List ℕ
+monitorNumbers m = m .source ∷ m .value ∷ m .threshold ∷ []
+
+-- source, value and threshold of each monitor
+abbrev pub monitors0 : Shelf → List ℕ
+monitors0 s =
+    monitorNumbers (monitorAt (phyAt s 0) 0)
+    ++ monitorNumbers (monitorAt (phyAt s 0) 1)
+    ++ monitorNumbers (monitorAt (phyAt s 0) 2)
+    ++ monitorNumbers (monitorAt (phyAt s 0) 3)
+
+-- Change, Expander 1h and Expander 2h, and the change count
+abbrev pub counts0 : Shelf → List ℕ
+counts0 s = phyAt s 0 .change0 ∷ phyAt s 0 .expander1 ∷ phyAt s 0 .expander2 ∷ s .changes ∷ []
+
+-- 1 where it is enabled, its Change, and the change count
+abbrev pub link0 : Shelf → List ℕ
+link0 s = cond (phyAt s 0 .enabled) 1 0 ∷ phyAt s 0 .change0 ∷ s .changes ∷ []
+
+-- the four error counts
+abbrev pub errors0 : Shelf → List ℕ
+errors0 s = errorAt (phyAt s 0) 0 ∷ errorAt (phyAt s 0) 1 ∷ errorAt (phyAt s 0) 2 ∷ errorAt (phyAt s 0) 3 ∷ []
+
+-- ---- Shelves
+
+abbrev pub withCounts : Shelf → ℕ → ℕ → ℕ → ℕ → Shelf
+withCounts s p change0 expander1 expander2 =
+    put s p
+    (phyWith (phyAt s p) (phyAt s p .enabled) (phyAt s p .errors) (phyAt s p .monitors) change0 expander1 expander2)
+    (s .changes)
+
+-- shelf W where every phy has counts: phy p has 0100h + p, 0200h + p and 0300h + p, and FFh has 0400h and 0500h
+abbrev pub countsW : Shelf
+countsW =
+    let s0 : Shelf = withCounts shelfW 0 0x0100 0x0200 0x0300 in
+    let s1 : Shelf = withCounts s0 1 0x0101 0x0201 0x0301 in
+    let s2 : Shelf = withCounts s1 2 0x0102 0x0202 0x0302 in
+    let s3 : Shelf = withCounts s2 3 0x0103 0x0203 0x0303 in
+    withDevice s3 0x0400 0x0500
+
+-- shelf W where each broadcast count of phy 0, and each under FFh, stands at FFFFh
+abbrev pub fullW : Shelf
+fullW = withDevice (withCounts shelfW 0 0xFFFF 0xFFFF 0xFFFF) 0xFFFF 0xFFFF
+
+-- phy 0 is to watch 2Dh with threshold 10, 2Dh with threshold 11, 02h with threshold 5, and nothing
+abbrev pub watching : Operation
+watching = sent 8 (configure 0x0A 0x01 0x00 0 4 (watch 0x2D 10 ++ watch 0x2D 11 ++ watch 0x02 5 ++ watch 0x00 0))
+
+-- ---- "Easily got wrong", in its order
+
+unfoldable pub easilyWrong : List Case
+easilyWrong =
+    -- 1. wrapping monitors and saturating error counts: 02h counts to FFFFFFFEh, then 2 more
+    on 1 shelfW
+    (watching ∷ Event 0 0x02 0xFFFFFFFE ∷ Event 0 0x02 2 ∷ [])
+    (Look (λ s. monitorAt (phyAt s 0) 2 .value ∷ errors0 s))
+    (Numbers (0x00000000 ∷ 0 ∷ 0xFFFFFFFF ∷ 0 ∷ 0 ∷ []))
+    -- 2. each broadcast count goes from FFFFh to 0001h, and 06h goes on listing it
+    ∷ on 2 fullW
+    (watching
+    ∷ Event 0 0x2D 10
+    ∷ sent 8 (configure 0x02 0x00 0x01 0 0 [])
+    ∷ ReducedFunctionality
+    ∷ Ses
+    ∷ LinkChange 0
+    ∷ [])
+    (Look (λ s. counts0 s ++ (s .expander3 ∷ s .ses0 ∷ [])))
+    (Numbers (0x0001 ∷ 0x0001 ∷ 0x0001 ∷ 0x0002 ∷ 0x0001 ∷ 0x0001 ∷ []))
+    ∷ on 2 fullW
+    (ReducedFunctionality ∷ [])
+    (Send 9 (readBroadcasts 0x04))
+    (Bytes ((0x41 ∷ 0x06 ∷ 0x00 ∷ 0x03 ∷ 0x00 ∷ 0x01 ∷ 0x04 ∷ 0x01 ∷ []) ++ entry 0xFF 0x03 0x00 0x01))
+    -- 3. an event source that no phy has, from a stranger and from one who reaches the phy
+    ∷ fresh 3 (Send 8 (configure 0x04 0x00 0x00 2 1 (watch 0x07 0))) (Bytes (short 0x93 0x20))
+    ∷ fresh 3 (Send 9 (configure 0x04 0x00 0x00 2 1 (watch 0x07 0))) (Bytes (short 0x93 0x17))
+    -- 4. two good descriptors, then a bad one: 17h, and all four monitors as they were
+    ∷ fresh 4
+    (Send 8 (configure 0x08 0x00 0x01 0 3 (watch 0x2E 1 ++ watch 0x01 1 ++ watch 0x2F 1)))
+    (Bytes (short 0x93 0x17))
+    ∷ on 4 shelfW
+    (watching
+    ∷ Event 0 0x2D 7
+    ∷ sent 8 (configure 0x08 0x00 0x01 0 3 (watch 0x2E 1 ++ watch 0x01 1 ++ watch 0x2F 1))
+    ∷ [])
+    (Look monitors0)
+    (Numbers (0x2D ∷ 7 ∷ 10 ∷ 0x2D ∷ 7 ∷ 11 ∷ 0x02 ∷ 0 ∷ 5 ∷ 0x00 ∷ 0 ∷ 0 ∷ []))
+    -- 5. 06h lists to 8 the counts of phys 0, 1 and 3, and to 9 those of 2 and 3
+    ∷ on 5 countsW []
+    (Send 8 (readBroadcasts 0x00))
+    (Bytes
+    ((0x41 ∷ 0x06 ∷ 0x00 ∷ 0x07 ∷ 0x00 ∷ 0x01 ∷ 0x00 ∷ 0x03 ∷ [])
+    ++ entry 0x00 0x00 0x01 0x00
+    ++ entry 0x01 0x00 0x01 0x01
+    ++ entry 0x03 0x00 0x01 0x03))
+    ∷ on 5 countsW []
+    (Send 9 (readBroadcasts 0x00))
+    (Bytes
+    ((0x41 ∷ 0x06 ∷ 0x00 ∷ 0x05 ∷ 0x00 ∷ 0x01 ∷ 0x00 ∷ 0x02 ∷ [])
+    ++ entry 0x02 0x00 0x01 0x02
+    ++ entry 0x03 0x00 0x01 0x03))
+    ∷ on 5 countsW []
+    (Send 8 (readBroadcasts 0x04))
+    (Bytes
+    ((0x41 ∷ 0x06 ∷ 0x00 ∷ 0x0F ∷ 0x00 ∷ 0x01 ∷ 0x04 ∷ 0x07 ∷ [])
+    ++ entry 0xFF 0x03 0x04 0x00
+    ++ entry 0x00 0x01 0x02 0x00
+    ++ entry 0x00 0x02 0x03 0x00
+    ++ entry 0x01 0x01 0x02 0x01
+    ++ entry 0x01 0x02 0x03 0x01
+    ++ entry 0x03 0x01 0x02 0x03
+    ++ entry 0x03 0x02 0x03 0x03))
+    ∷ on 5 countsW []
+    (Send 9 (readBroadcasts 0x04))
+    (Bytes
+    ((0x41 ∷ 0x06 ∷ 0x00 ∷ 0x0B ∷ 0x00 ∷ 0x01 ∷ 0x04 ∷ 0x05 ∷ [])
+    ++ entry 0xFF 0x03 0x04 0x00
+    ++ entry 0x02 0x01 0x02 0x02
+    ++ entry 0x02 0x02 0x03 0x02
+    ++ entry 0x03 0x01 0x02 0x03
+    ++ entry 0x03 0x02 0x03 0x03))
+    ∷ []
+
+-- ---- House refusals
+
+unfoldable pub refusals : List Case
+refusals =
+    -- H1, H1, H2, H3 (row 0), H3 (row 1), H3 (not symmetric), H2 before H3, and a group past the phy number is ignored
+    fresh 1
+    (Look
+    (λ s. takenNumber (start 0 groupsW tableW identifierW .taken)
+    ∷ takenNumber (start 25 groupsW tableW identifierW .taken)
+    ∷ takenNumber (start 4 (set groupsW 3 32) tableW identifierW .taken)
+    ∷ takenNumber (start 4 groupsW (set tableW 0 0x00000003) identifierW .taken)
+    ∷ takenNumber (start 4 groupsW (set tableW 1 0xFFFFFFFD) identifierW .taken)
+    ∷ takenNumber (start 4 groupsW (set tableW 8 0x00000302) identifierW .taken)
+    ∷ takenNumber (start 4 (set groupsW 0 264) (set tableW 0 0x00000003) identifierW .taken)
+    ∷ takenNumber (start 4 (set groupsW 4 99) tableW identifierW .taken)
+    ∷ []))
+    (Numbers (1 ∷ 1 ∷ 2 ∷ 3 ∷ 3 ∷ 3 ∷ 2 ∷ 0 ∷ []))
+    -- a refused start gives no device: no phys
+    ∷ fresh 3
+    (Look (λ s. start 4 groupsW (set tableW 0 0x00000003) identifierW .shelf .number ∷ []))
+    (Numbers (0 ∷ []))
+    -- H4 before H5 before H6; H5 of 1,027 bytes (case 13)
+    ∷ fresh 4 (Lend 0 32 []) (H 4)
+    ∷ fresh 4 (Lend 0 264 (readBroadcasts 0x00)) (H 4)
+    ∷ fresh 5 (Lend 1027 31 []) (H 5)
+    ∷ fresh 5 (Lend 1027 1 (readBroadcasts 0x00)) (H 5)
+    ∷ fresh 6 (Lend 1028 1 (0x41 ∷ 0x06 ∷ 0x00 ∷ 0x00 ∷ [])) (H 6)
+    ∷ fresh 6 (Lend 1028 1 []) (H 6)
+    -- events: H7 first, whole numbers; H8; H9 at its two limits; link changes: H7, FFh no phy
+    ∷ fresh 7
+    (Look
+    (λ s. takenNumber (event s 4 0x00 0 .taken)
+    ∷ takenNumber (event s 256 0x01 0 .taken)
+    ∷ takenNumber (event s 0 0x00 0 .taken)
+    ∷ takenNumber (event s 0 0x07 0 .taken)
+    ∷ takenNumber (event s 0 0x12D 0 .taken)
+    ∷ takenNumber (event s 0 0x2B 0xFF .taken)
+    ∷ takenNumber (event s 0 0x2B 0x100 .taken)
+    ∷ takenNumber (event s 0 0x2C 0xFFFF .taken)
+    ∷ takenNumber (event s 0 0x2C 0x10000 .taken)
+    ∷ takenNumber (event s 3 0x2D 0xFFFFFFFF .taken)
+    ∷ takenNumber (linkChange s 3 .taken)
+    ∷ takenNumber (linkChange s 0xFF .taken)
+    ∷ []))
+    (Numbers (7 ∷ 7 ∷ 8 ∷ 8 ∷ 8 ∷ 0 ∷ 9 ∷ 0 ∷ 9 ∷ 0 ∷ 0 ∷ 7 ∷ []))
+    -- a refusal leaves the lent buffer; a response leaves what is past it, and writes its zeros
+    ∷ fresh 5 (Look (λ s. lentAfter s 1 (readBroadcasts 0x00) (replicate 1027 0xEE))) (Numbers (replicate 1027 0xEE))
+    ∷ fresh 6 (Look (λ s. lentAfter s 1 [] (replicate 1028 0xEE))) (Numbers (replicate 1028 0xEE))
+    ∷ fresh 0
+    (Look (λ s. lentAfter s 1 (readBroadcasts 0x00) (replicate 1028 0xEE)))
+    (Numbers ((0x41 ∷ 0x06 ∷ 0x00 ∷ 0x01 ∷ 0x00 ∷ 0x01 ∷ 0x00 ∷ 0x00 ∷ []) ++ replicate 1020 0xEE))
+    ∷ []
+
+-- ---- Function results, in their order
+
+unfoldable pub results : List Case
+results =
+    -- 01h at any length
+    fresh 0x01 (Send 1 (0x40 ∷ 0x02 ∷ 0x00 ∷ 0x07 ∷ 0x00 ∷ [])) (Bytes (short 0x02 0x01))
+    -- 03h: true length, byte 3, and for 93h both with d; before a wrong count
+    ∷ fresh 0x03 (Send 1 (0x40 ∷ 0x11 ∷ 0x00 ∷ 0x00 ∷ [])) (Bytes (short 0x11 0x03))
+    ∷ fresh 0x03 (Send 1 (readPhy 0x11 0x01 0)) (Bytes (short 0x11 0x03))
+    ∷ fresh 0x03 (Send 1 (control 0x08 0x07 0 0x00)) (Bytes (short 0x91 0x03))
+    ∷ fresh 0x03 (Send 1 (configure 0x02 0x07 0x00 0 1 (watch 0x01 0))) (Bytes (short 0x93 0x03))
+    ∷ fresh 0x03 (Send 1 (configure 0x04 0x07 0x00 0 1 (zeros 7))) (Bytes (short 0x93 0x03))
+    ∷ fresh 0x03 (Send 1 (0x40 ∷ 0x93 ∷ 0x00 ∷ 0x02 ∷ zeros 7)) (Bytes (short 0x93 0x03))
+    -- 04h before 10h; 10h of FFh
+    ∷ fresh 0x04 (Send 1 (control 0x09 0x02 4 0x00)) (Bytes (short 0x91 0x04))
+    ∷ fresh 0x04 (Send 1 (configure 0x02 0x02 0x00 4 0 [])) (Bytes (short 0x93 0x04))
+    ∷ fresh 0x10 (Send 1 (readPhy 0x14 0x02 0xFF)) (Bytes (short 0x14 0x10))
+    -- 10h before 20h, 20h before 13h and 02h
+    ∷ fresh 0x10 (Send 2 (control 0x09 0x01 4 0x07)) (Bytes (short 0x91 0x10))
+    ∷ fresh 0x20 (Send 8 (control 0x09 0x01 2 0x07)) (Bytes (short 0x91 0x20))
+    ∷ fresh 0x20 (Send 8 (configure 0x0C 0x01 0x00 2 5 (zeros 40))) (Bytes (short 0x93 0x20))
+    ∷ fresh 0x16 (Send 9 (readPhy 0x11 0x00 0)) (Bytes (short 0x11 0x16))
+    -- 13h; 02h of a type above 0Fh, and of five descriptors before the first of them is judged; 17h
+    ∷ fresh 0x13 (Send 8 (control 0x00 0x01 0 0x02)) (Bytes (short 0x91 0x13))
+    ∷ fresh 0x02 (Send 1 (readBroadcasts 0x10)) (Bytes (short 0x06 0x02))
+    ∷ fresh 0x02 (Send 8 (configure 0x0C 0x01 0x00 0 5 (watch 0x07 0 ++ zeros 32))) (Bytes (short 0x93 0x02))
+    ∷ fresh 0x17 (Send 8 (configure 0x04 0x01 0x00 0 1 (watch 0x46 0))) (Bytes (short 0x93 0x17))
+    ∷ []
+
+-- ---- Frames
+
+unfoldable pub frames : List Case
+frames =
+    fresh 0x00
+    (Send 0 (0x40 ∷ 0x00 ∷ 0x00 ∷ 0x00 ∷ []))
+    (Bytes
+    ((0x41 ∷ 0x00 ∷ 0x00 ∷ 0x08 ∷ 0x00 ∷ 0x01 ∷ 0x00 ∷ 0x00 ∷ 0x00 ∷ 0x04 ∷ 0x00 ∷ 0x00 ∷ [])
+    ++ (0x01 ∷ 0x02 ∷ 0x03 ∷ 0x04 ∷ 0x05 ∷ 0x06 ∷ 0x07 ∷ 0x08 ∷ [])
+    ++ zeros 16))
+    ∷ on 0x01 shelfW
+    (LinkChange 0 ∷ [])
+    (Send 0 (0x40 ∷ 0x01 ∷ 0x00 ∷ 0x00 ∷ []))
+    (Bytes
+    ((0x41 ∷ 0x01 ∷ 0x00 ∷ 0x0E ∷ 0x00 ∷ 0x02 ∷ 0x00 ∷ 0x00 ∷ 0x00 ∷ 0x00 ∷ 0x00 ∷ 0x00 ∷ [])
+    ++ (0x52 ∷ 0x41 ∷ 0x49 ∷ 0x4C ∷ 0x59 ∷ 0x41 ∷ 0x52 ∷ 0x44 ∷ [])
+    ++ (0x50 ∷ 0x4F ∷ 0x52 ∷ 0x54 ∷ 0x41 ∷ 0x4C ∷ 0x20 ∷ 0x53 ∷ 0x48 ∷ 0x45 ∷ 0x4C ∷ 0x46 ∷ 0x20 ∷ 0x20 ∷ 0x20 ∷ 0x20 ∷ [])
+    ++ (0x30 ∷ 0x30 ∷ 0x30 ∷ 0x31 ∷ [])
+    ++ zeros 20))
+    -- 06h: SES under FFh; types that list nothing
+    ∷ on 0x06 countsW []
+    (Send 0 (readBroadcasts 0x03))
+    (Bytes ((0x41 ∷ 0x06 ∷ 0x00 ∷ 0x03 ∷ 0x00 ∷ 0x01 ∷ 0x03 ∷ 0x01 ∷ []) ++ entry 0xFF 0x00 0x05 0x00))
+    ∷ on 0x06 countsW []
+    (Send 1 (readBroadcasts 0x0F))
+    (Bytes (0x41 ∷ 0x06 ∷ 0x00 ∷ 0x01 ∷ 0x00 ∷ 0x01 ∷ 0x0F ∷ 0x00 ∷ []))
+    -- 11h: the four error counts, big-endian
+    ∷ on 0x11 shelfW
+    (Event 3 0x01 0x01020304 ∷ Event 3 0x02 0x05 ∷ Event 3 0x03 0x06 ∷ Event 3 0x04 0x07 ∷ [])
+    (Send 9 (readPhy 0x11 0x02 3))
+    (Bytes
+    ((0x41 ∷ 0x11 ∷ 0x00 ∷ 0x06 ∷ 0x00 ∷ 0x01 ∷ 0x00 ∷ 0x00 ∷ 0x00 ∷ 0x03 ∷ 0x00 ∷ 0x00 ∷ [])
+    ++ (0x01 ∷ 0x02 ∷ 0x03 ∷ 0x04 ∷ 0x00 ∷ 0x00 ∷ 0x00 ∷ 0x05 ∷ 0x00 ∷ 0x00 ∷ 0x00 ∷ 0x06 ∷ 0x00 ∷ 0x00 ∷ 0x00 ∷ 0x07 ∷ [])))
+    -- 14h: the four monitors, each in its place
+    ∷ on 0x14 shelfW
+    (watching ∷ Event 0 0x2D 0x0A0B ∷ Event 0 0x02 0x0C ∷ [])
+    (Send 8 (readPhy 0x14 0x02 0))
+    (Bytes
+    ((0x41 ∷ 0x14 ∷ 0x00 ∷ 0x0F ∷ 0x00 ∷ 0x01 ∷ 0x00 ∷ 0x00 ∷ 0x00 ∷ 0x00 ∷ 0x00 ∷ 0x00 ∷ 0x00 ∷ 0x00 ∷ 0x00 ∷ 0x04 ∷ [])
+    ++ (0x00 ∷ 0x00 ∷ 0x00 ∷ 0x2D ∷ 0x00 ∷ 0x00 ∷ 0x0A ∷ 0x0B ∷ 0x00 ∷ 0x00 ∷ 0x00 ∷ 0x0A ∷ [])
+    ++ (0x00 ∷ 0x00 ∷ 0x00 ∷ 0x2D ∷ 0x00 ∷ 0x00 ∷ 0x0A ∷ 0x0B ∷ 0x00 ∷ 0x00 ∷ 0x00 ∷ 0x0B ∷ [])
+    ++ (0x00 ∷ 0x00 ∷ 0x00 ∷ 0x02 ∷ 0x00 ∷ 0x00 ∷ 0x00 ∷ 0x0C ∷ 0x00 ∷ 0x00 ∷ 0x00 ∷ 0x05 ∷ [])
+    ++ zeros 12))
+    -- 91h: disable, disable again, link reset, link reset again; length 00h serves too
+    ∷ on 0x91 shelfW (sent 8 (control 0x09 0x01 0 0x03) ∷ []) (Look link0) (Numbers (0 ∷ 1 ∷ 0x0002 ∷ []))
+    ∷ on 0x91 shelfW
+    (sent 8 (control 0x09 0x01 0 0x03) ∷ sent 8 (control 0x00 0x02 0 0x03) ∷ [])
+    (Look link0)
+    (Numbers (0 ∷ 1 ∷ 0x0002 ∷ []))
+    ∷ on 0x91 shelfW
+    (sent 8 (control 0x09 0x00 0 0x03) ∷ sent 8 (control 0x00 0x00 0 0x01) ∷ sent 1 (control 0x00 0x03 0 0x01) ∷ [])
+    (Look link0)
+    (Numbers (1 ∷ 3 ∷ 0x0004 ∷ []))
+    -- 91h: 00h does nothing, 05h sets the error counts to 0 and nothing else
+    ∷ on 0x91 shelfW
+    (watching ∷ Event 0 0x02 3 ∷ sent 8 (control 0x09 0x01 0 0x00) ∷ [])
+    (Look (λ s. errors0 s ++ link0 s))
+    (Numbers (0 ∷ 3 ∷ 0 ∷ 0 ∷ 1 ∷ 0 ∷ 0x0001 ∷ []))
+    ∷ on 0x91 shelfW
+    (watching ∷ Event 0 0x02 3 ∷ Event 0 0x04 4 ∷ sent 8 (control 0x09 0x01 0 0x05) ∷ [])
+    (Look (λ s. errors0 s ++ link0 s ++ monitors0 s))
+    (Numbers (0 ∷ 0 ∷ 0 ∷ 0 ∷ 1 ∷ 0 ∷ 0x0001 ∷ 0x2D ∷ 0 ∷ 10 ∷ 0x2D ∷ 0 ∷ 11 ∷ 0x02 ∷ 3 ∷ 5 ∷ 0x00 ∷ 0 ∷ 0 ∷ []))
+    -- 93h: the same source keeps the value, a changed source sets it to 0, what has no descriptor stays; bit 0 alone clears
+    ∷ on 0x93 shelfW
+    (watching
+    ∷ Event 0 0x2D 9
+    ∷ Event 0 0x02 3
+    ∷ sent 8 (configure 0x06 0x00 0xFE 0 2 (watch 0x2D 20 ++ watch 0x2E 2))
+    ∷ [])
+    (Look (λ s. monitors0 s ++ counts0 s))
+    (Numbers (0x2D ∷ 9 ∷ 20 ∷ 0x2E ∷ 0 ∷ 2 ∷ 0x02 ∷ 3 ∷ 5 ∷ 0x00 ∷ 0 ∷ 0 ∷ 0 ∷ 0 ∷ 0 ∷ 0x0001 ∷ []))
+    -- 93h: the clear comes after the setting, spares counting monitors, and originates Expander 2h once
+    ∷ on 0x93 shelfW
+    (watching
+    ∷ Event 0 0x2D 9
+    ∷ Event 0 0x02 3
+    ∷ sent 8 (configure 0x04 0x00 0x01 0 1 (watch 0x02 20))
+    ∷ [])
+    (Look (λ s. monitors0 s ++ counts0 s))
+    (Numbers (0x02 ∷ 0 ∷ 20 ∷ 0x2D ∷ 0 ∷ 11 ∷ 0x02 ∷ 3 ∷ 5 ∷ 0x00 ∷ 0 ∷ 0 ∷ 0 ∷ 0 ∷ 1 ∷ 0x0001 ∷ []))
+    ∷ []
+
+-- ---- Counting
+
+unfoldable pub peaks : List Case
+peaks =
+    -- 12. Threshold 10 on 2Dh, reports 9, 10, 12: Expander 1h is 1. (With a second monitor at threshold 11 it is 2.)
+    on 12 shelfW
+    (sent 8 (configure 0x04 0x01 0x00 0 1 (watch 0x2D 10)) ∷ Event 0 0x2D 9 ∷ Event 0 0x2D 10 ∷ Event 0 0x2D 12 ∷ [])
+    (Look counts0)
+    (Numbers (0 ∷ 1 ∷ 0 ∷ 0x0001 ∷ []))
+    ∷ on 12 shelfW
+    (watching ∷ Event 0 0x2D 9 ∷ Event 0 0x2D 10 ∷ Event 0 0x2D 12 ∷ Event 0 0x2D 5 ∷ [])
+    (Look (λ s. counts0 s ++ monitors0 s))
+    (Numbers (0 ∷ 2 ∷ 0 ∷ 0x0001 ∷ 0x2D ∷ 12 ∷ 10 ∷ 0x2D ∷ 12 ∷ 11 ∷ 0x02 ∷ 0 ∷ 5 ∷ 0x00 ∷ 0 ∷ 0 ∷ []))
+    -- "Threshold 0 thus never does"; a counting monitor never does
+    ∷ on 12 shelfW
+    (sent 8 (configure 0x04 0x01 0x00 0 1 (watch 0x2D 0)) ∷ Event 0 0x2D 9 ∷ [])
+    (Look counts0)
+    (Numbers (0 ∷ 0 ∷ 0 ∷ 0x0001 ∷ []))
+    ∷ on 12 shelfW (watching ∷ Event 0 0x02 9 ∷ []) (Look counts0) (Numbers (0 ∷ 0 ∷ 0 ∷ 0x0001 ∷ []))
+    -- a clear of peaks that are 0 already originates Expander 2h all the same
+    ∷ on 12 shelfW
+    (watching ∷ sent 8 (configure 0x02 0x01 0x01 0 0 []) ∷ sent 8 (configure 0x02 0x01 0x01 0 0 []) ∷ [])
+    (Look counts0)
+    (Numbers (0 ∷ 0 ∷ 2 ∷ 0x0001 ∷ []))
+    -- a report of one phy leaves the others
+    ∷ on 12 shelfW
+    (Event 1 0x01 9 ∷ LinkChange 1 ∷ [])
+    (Look (λ s. errors0 s ++ counts0 s))
+    (Numbers (0 ∷ 0 ∷ 0 ∷ 0 ∷ 0 ∷ 0 ∷ 0 ∷ 0x0002 ∷ []))
+    ∷ []

@@ -1,0 +1,45 @@
+-- A proof that says `unfolding computes` may run every definition of document 01 on numbers: the names are listed here, once.
+use Prim.Native.Nat.{ℕ}
+use Rattle.model.specs.Counting.{originate, addWrapping, addSaturating, counted, crosses, originateCrossings, addError, eventOn, changeOn}
+use Rattle.model.specs.Reach.{reachSet, reachNumber, reachQuery}
+use Rattle.model.specs.Reply.{reportGeneral, reportManufacturer, reportPhyErrorLog, reportPhyEvent, deviceListed, phyListed, broadcasts, broadcastBytes, reportBroadcast, respond}
+use Rattle.model.specs.Reports.{amountTooLarge, eventTaken, event, linkChange, reducedFunctionality, sesNotice}
+use Rattle.model.specs.Request.{isRequest, known, lengthRight, asked, judge, allowed, firstUnsupported}
+use Rattle.model.specs.Results.{countRight, knownOperation, decide}
+use Rattle.model.specs.Runs.{told, next, after}
+use Rattle.model.specs.Server.{handle, served, lentAfter}
+use Rattle.model.specs.Shelf.{freshShelf, noShelf, startTaken, start}
+use Rattle.model.specs.ShelfW.{shelfW}
+use Rattle.model.specs.Sources.{counting, peak, supported}
+use Rattle.model.specs.Tests.{allBelow, sumBelow, joinBelow}
+use Rattle.model.specs.Writes.{controlled, controlChanges, setMonitor, setMonitors, clearMonitor, anyPeak, configured, effect}
+use Rattle.model.specs.Zone.{rowReaches, symmetric, legalTable}
+
+-- `unfolding f` opens whatever f's own `unfolding` line names: each set below is a name for such a line, and its value is of no interest.
+unfoldable pub zones : ℕ
+unfolding allBelow sumBelow joinBelow rowReaches symmetric legalTable reachSet reachNumber reachQuery
+zones = 0
+
+unfoldable pub counts : ℕ
+unfolding counting peak supported originate addWrapping addSaturating counted crosses originateCrossings addError eventOn changeOn
+counts = 0
+
+unfoldable pub shelves : ℕ
+unfolding freshShelf noShelf startTaken start amountTooLarge eventTaken event linkChange reducedFunctionality sesNotice
+shelves = 0
+
+unfoldable pub requests : ℕ
+unfolding isRequest known lengthRight asked judge allowed firstUnsupported countRight knownOperation decide
+requests = 0
+
+unfoldable pub replies : ℕ
+unfolding reportGeneral reportManufacturer reportPhyErrorLog reportPhyEvent deviceListed phyListed broadcasts broadcastBytes reportBroadcast respond
+replies = 0
+
+unfoldable pub writes : ℕ
+unfolding controlled controlChanges setMonitor setMonitors clearMonitor anyPeak configured effect
+writes = 0
+
+unfoldable pub computes : ℕ
+unfolding zones counts shelves requests replies writes handle served lentAfter told next after shelfW
+computes = 0

@@ -1,0 +1,30 @@
+-- The further cases hold of the definitions too, by computation.
+use mathlib.Core.Path.{refl}
+use Rattle.model.specs.Vectors.{easilyWrong, refusals, results, frames, peaks}
+use Rattle.model.proofs.Computes.{computes}
+use Rattle.model.proofs.Holds.{Holds}
+
+pub easily-wrong-hold : Holds easilyWrong
+unfolding easilyWrong computes
+easily-wrong-hold =
+    (refl, (refl, (refl, (refl, (refl, (refl, (refl, (refl, (refl, (refl, (refl, tt)))))))))))
+
+pub refusals-hold : Holds refusals
+unfolding refusals computes
+refusals-hold =
+    (refl, (refl, (refl, (refl, (refl, (refl, (refl, (refl, (refl, (refl, (refl, (refl, tt))))))))))))
+
+pub results-hold : Holds results
+unfolding results computes
+results-hold =
+    (refl, (refl, (refl, (refl, (refl, (refl, (refl, (refl, (refl, (refl, (refl, (refl, (refl, (refl, (refl, (refl, (refl, (refl, tt))))))))))))))))))
+
+pub frames-hold : Holds frames
+unfolding frames computes
+frames-hold =
+    (refl, (refl, (refl, (refl, (refl, (refl, (refl, (refl, (refl, (refl, (refl, (refl, (refl, tt)))))))))))))
+
+pub peaks-hold : Holds peaks
+unfolding peaks computes
+peaks-hold =
+    (refl, (refl, (refl, (refl, (refl, (refl, tt))))))
