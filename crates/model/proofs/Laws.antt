@@ -1,0 +1,4 @@
+-- Laws of the definitions, for proofs to cite.
+pub mod Tests
+pub mod Bits
+pub mod Picked

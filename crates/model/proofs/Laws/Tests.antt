@@ -1,0 +1,93 @@
+-- Laws of the small words of `specs/Tests`: when each holds, in plain logic. Assumes nothing.
+use Prim.Native.Nat.{ℕ, zero, suc, _+_, _≤_, _<_}
+use native.Mathlib.Nat.{not-suc-le-zero, le-of-suc-le-suc, eq-or-lt-of-le}
+use native.Mathlib.Omega.{arith}
+use mathlib.Core.Path.{_≡_, refl, sym, subst, subst⁻¹}
+use mathlib.Core.Logic.{_↔_, _⊎_, inl, inr, ⊎-elim, Iff·trans, Iff·symm, Iff·and}
+use mathlib.Core.Bool.{Bool, true, false, not, _&&_, _||_, Bool·beq, or-assoc, true≢false, false≢true}
+use mathlib.Core.List.{List, [], _∷_, List·Memᴰ, List·Memᴰ·head, List·Memᴰ·tail, List·Memᴰ·cases-cons, List·Memᴰ·not-nil}
+use lib.Dec.{T, leb, ltb, eqb, leb→le, le→leb, ltb→lt, lt→ltb, eqb→eq, eqb-refl, T-not, not-T}
+use Rattle.model.specs.Tests.{within, oneOf, allBelow}
+
+-- ---- Bool
+
+pub and-iff : (a b : Bool) → T (a && b) ↔ (T a × T b)
+and-iff true b = (λ t. (tt, t), λ p. p .1)
+and-iff false b = (λ t. absurd t, λ p. p .0)
+
+pub or-iff : (a b : Bool) → T (a || b) ↔ (T a ⊎ T b)
+or-iff true b = (λ t. inl tt, λ s. tt)
+or-iff false b = (λ t. inr t, elim [ inl t ↦ absurd t | inr t ↦ t ])
+
+pub not-iff : (a : Bool) → T (not a) ↔ (T a → ⊥)
+not-iff a = (T-not a, not-T a)
+
+pub same-iff : (a b : Bool) → T (Bool·beq a b) ↔ (a ≡ b)
+same-iff true true = (λ t. refl, λ e. tt)
+same-iff true false = (λ t. absurd t, λ e. absurd (true≢false e))
+same-iff false true = (λ t. absurd t, λ e. absurd (false≢true e))
+same-iff false false = (λ t. refl, λ e. tt)
+
+-- a test of several parts, from what each part says
+pub both-iff : (a b : Bool) {A B : Type 0} → T a ↔ A → T b ↔ B → T (a && b) ↔ (A × B)
+both-iff a b f g = Iff·trans (and-iff a b) (Iff·and f g)
+
+pub all-three-iff : (a b c : Bool) {A B C : Type 0} → T a ↔ A → T b ↔ B → T c ↔ C → T (a && b && c) ↔ (A × B × C)
+all-three-iff a b c f g h = (
+  λ t.
+      let ((x, y), z) = both-iff (a && b) c (both-iff a b f g) h .0 t in
+      (x, y, z),
+  λ p. both-iff (a && b) c (both-iff a b f g) h .1 ((p .0, p .1), p .2),
+)
+
+pub either-iff : (a b : Bool) {A B : Type 0} → T a ↔ A → T b ↔ B → T (a || b) ↔ (A ⊎ B)
+either-iff a b f g = Iff·trans (or-iff a b) (⊎-iff f g)
+  where
+    ⊎-iff : {A B C D : Type 0} → A ↔ C → B ↔ D → (A ⊎ B) ↔ (C ⊎ D)
+    ⊎-iff f′ g′ =
+        (⊎-elim (λ x. inl (f′ .0 x)) (λ y. inr (g′ .0 y)), ⊎-elim (λ x. inl (f′ .1 x)) (λ y. inr (g′ .1 y)))
+
+pub one-of-three-iff : (a b c : Bool) {A B C : Type 0} → T a ↔ A → T b ↔ B → T c ↔ C → T (a || b || c) ↔ (A ⊎ B ⊎ C)
+one-of-three-iff a b c f g h = rw or-assoc (either-iff a (b || c) f (either-iff b c g h))
+
+-- ---- numbers
+
+pub leb-iff : (m n : ℕ) → T (leb m n) ↔ (m ≤ n)
+leb-iff m n = (leb→le m n, le→leb m n)
+
+pub ltb-iff : (m n : ℕ) → T (ltb m n) ↔ (m < n)
+ltb-iff m n = (ltb→lt m n, lt→ltb m n)
+
+pub eqb-iff : (m n : ℕ) → T (eqb m n) ↔ (m ≡ n)
+eqb-iff m n = (eqb→eq m n, λ e. subst⁻¹ (λ (k : ℕ). T (eqb k n)) e (eqb-refl n))
+
+pub within-iff : (low high n : ℕ) → T (within low high n) ↔ ((low ≤ n) × (n ≤ high))
+within-iff low high n = both-iff (leb low n) (leb n high) (leb-iff low n) (leb-iff n high)
+
+-- ---- one of a list
+
+member-iff : (n x : ℕ) (xs : List ℕ) → List·Memᴰ n (x ∷ xs) ↔ ((n ≡ x) ⊎ List·Memᴰ n xs)
+member-iff n x xs = (λ m. List·Memᴰ·cases-cons m, ⊎-elim (λ e. List·Memᴰ·head e) (λ m. List·Memᴰ·tail m))
+
+pub oneOf-iff : (xs : List ℕ) (n : ℕ) → T (oneOf xs n) ↔ List·Memᴰ n xs
+oneOf-iff [] n = (λ t. absurd t, λ m. absurd (List·Memᴰ·not-nil m))
+oneOf-iff (x ∷ xs) n =
+    Iff·trans (either-iff (eqb n x) (oneOf xs n) (eqb-iff n x) (oneOf-iff xs n)) (Iff·symm (member-iff n x xs))
+
+-- ---- all of 0 to n - 1
+
+-- what holds of each number below n, and of n, holds of each below n + 1
+pub below-suc : (P : ℕ → Type 0) (n : ℕ) → ((i : ℕ) → i < n → P i) → P n → (i : ℕ) → i < suc n → P i
+below-suc P n all here i h =
+    ⊎-elim (λ e. subst⁻¹ P e here) (λ l. all i l) (eq-or-lt-of-le (le-of-suc-le-suc h))
+
+pub allBelow-iff : (n : ℕ) (test : ℕ → Bool) → T (allBelow n test) ↔ ((i : ℕ) → i < n → T (test i))
+unfolding allBelow
+allBelow-iff zero test = (λ t i h. absurd (not-suc-le-zero h), λ f. tt)
+allBelow-iff (suc n) test = (
+  λ t.
+      let both : T (allBelow n test) × T (test n) = and-iff (allBelow n test) (test n) .0 t in
+      below-suc (λ i. T (test i)) n (allBelow-iff n test .0 (both .0)) (both .1),
+  λ f.
+      and-iff (allBelow n test) (test n) .1 (allBelow-iff n test .1 (λ i h. f i (omega arith)), f n (omega arith)),
+)

@@ -1,0 +1,8 @@
+-- Each test of specs/ once more, in plain logic: the test holds exactly when the sentence does. One file to a file of specs/.
+pub mod Zone
+pub mod Reach
+pub mod Sources
+pub mod Counting
+pub mod Start
+pub mod Reports
+pub mod Frames

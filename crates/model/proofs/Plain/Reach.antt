@@ -1,0 +1,56 @@
+-- Which phys exist and which a source reaches, and what a reach query's two numbers are, in plain logic. Assumes nothing.
+use Prim.Native.Nat.{ℕ, _/_, _%_, _^_, _≤_, _<_}
+use native.Mathlib.Nat.{lt-of-lt-of-le}
+use native.Mathlib.Omega.{arith}
+use mathlib.Core.Path.{_≡_, sym}
+use mathlib.Core.Logic.{_↔_, Iff·trans}
+use mathlib.Core.List.{List, List·Memᴰ}
+use lib.Count.{ones}
+use lib.Dec.{T}
+use lib.ListN.{length}
+use lib.Pow.{pow-mono}
+use Rattle.model.specs.declared.Shelf.{Shelf}
+use Rattle.model.specs.Reach.{reaches, reachSet, reachNumber}
+use Rattle.model.specs.Shelf.{phyNumber, exists, phyAt}
+use Rattle.model.specs.Zone.{bit, row}
+use Rattle.model.proofs.Laws.Bits.{powers-lt, ones-powers, bit-powers-iff}
+use Rattle.model.proofs.Laws.Picked.{picked, Rising, picked-below, picked-all, picked-rising, picked-length}
+use Rattle.model.proofs.Laws.Tests.{ltb-iff}
+use Rattle.model.proofs.Plain.Zone.{row-reaches}
+
+-- a phy exists if it is below the phy number; no record has room for more than 24
+pub exists-iff : (s : Shelf) (p : ℕ) → T (exists s p) ↔ ((p < s .number) × (p < 24))
+exists-iff s p = Iff·trans (ltb-iff p (phyNumber s)) (λ h. (omega arith, omega arith), λ h. omega arith)
+
+-- "A source reaches a phy if its row has the bit of the phy's group."
+pub reaches-iff : (s : Shelf) (g p : ℕ) → T (reaches s g p) ↔ ((phyAt s p .group ≤ 31) × (row (s .table) g / 2 ^ phyAt s p .group % 2 ≡ 1))
+reaches-iff s g p = row-reaches (row (s .table) g) (phyAt s p .group)
+
+-- the set has bit p exactly if phy p exists and is reached, and fits in 24 bits
+pub reach-set : (s : Shelf) (g p : ℕ) → T (bit (reachSet s g) p) ↔ (T (exists s p) × T (reaches s g p))
+unfolding reachSet
+reach-set s g p = bit-powers-iff (phyNumber s) (reaches s g) p
+
+pub reach-set-fits : (s : Shelf) (g : ℕ) → reachSet s g < 2 ^ 24
+unfolding reachSet
+reach-set-fits s g = lt-of-lt-of-le (powers-lt (phyNumber s) (reaches s g)) (pow-mono {j = 24} (omega arith))
+
+-- the phys that a source reaches, written out: these and no others, rising
+abbrev pub reachedPhys : Shelf → ℕ → List ℕ
+reachedPhys s g = picked (phyNumber s) (reaches s g)
+
+pub reached-phys : (s : Shelf) (g p : ℕ) → List·Memᴰ p (reachedPhys s g) ↔ ((p < phyNumber s) × T (reaches s g p))
+reached-phys s g p =
+    (picked-below (phyNumber s) (reaches s g) p, λ h. picked-all (phyNumber s) (reaches s g) p (h .0) (h .1))
+
+pub reached-rising : (s : Shelf) (g : ℕ) → Rising (reachedPhys s g)
+reached-rising s g = picked-rising (phyNumber s) (reaches s g)
+
+-- the number is how many they are, and so the count of ones of the set
+pub reach-number : (s : Shelf) (g : ℕ) → reachNumber s g ≡ length (reachedPhys s g)
+unfolding reachNumber
+reach-number s g = sym (picked-length (phyNumber s) (reaches s g))
+
+pub reach-ones : (s : Shelf) (g : ℕ) → reachNumber s g ≡ ones (reachSet s g)
+unfolding reachSet reachNumber
+reach-ones s g = sym (ones-powers (phyNumber s) (reaches s g))
