@@ -1,4 +1,5 @@
 -- Laws of the definitions, for proofs to cite.
 pub mod Tests
+pub mod Checks
 pub mod Bits
 pub mod Picked

@@ -5,4 +5,5 @@ pub mod Sources
 pub mod Counting
 pub mod Start
 pub mod Reports
-pub mod Frames
+pub mod Request
+pub mod Results

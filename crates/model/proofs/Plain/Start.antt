@@ -1,1 +1,51 @@
--- x
+-- When a start gives a device, and what that device is, in plain logic. Assumes nothing.
+use Prim.Native.Nat.{ℕ, _≤_, _<_}
+use mathlib.Core.Path.{_≡_}
+use mathlib.Core.Logic.{_↔_, Iff·trans}
+use mathlib.Core.List.{List}
+use lib.Dec.{T}
+use lib.ListN.{getD}
+use Rattle.model.specs.declared.House.{House}
+use Rattle.model.specs.declared.House.the-variants.{PhyNumber, PhyGroup, IllegalTable}
+use Rattle.model.specs.declared.Taken.{Taken}
+use Rattle.model.specs.declared.Taken.the-variants.{Done, NotDone}
+use Rattle.model.specs.Shelf.{phyAt, noPhy, freshPhy, startGroup, freshShelf, noShelf, startTaken, start}
+use Rattle.model.specs.Tests.{within, allBelow}
+use Rattle.model.specs.Zone.{zoneGroup, legalTable}
+use Rattle.model.proofs.Laws.Checks.{three-checks-iff}
+use Rattle.model.proofs.Laws.Tests.{within-iff, leb-iff, allBelow-iff, joinBelow-at}
+use Rattle.model.proofs.Plain.Zone.{LegalTable, legal-table}
+
+-- none of H1, H2 and H3 applies
+pub record Startable (n : ℕ) (groups table : List ℕ) : Type 0 where
+  pub number : (1 ≤ n) × (n ≤ 24)
+  pub groups-fit : (p : ℕ) → p < n → getD groups p 0 ≤ 31
+  pub legal : LegalTable table
+
+groups-iff : (n : ℕ) (groups : List ℕ) → T (allBelow n (λ p. zoneGroup (getD groups p 0))) ↔ ((p : ℕ) → p < n → getD groups p 0 ≤ 31)
+groups-iff n groups =
+    Iff·trans (allBelow-iff n (λ p. zoneGroup (getD groups p 0)))
+    (λ f p h. leb-iff (getD groups p 0) 31 .0 (f p h), λ f p h. leb-iff (getD groups p 0) 31 .1 (f p h))
+
+pub start-done : (n : ℕ) (groups table : List ℕ) → (startTaken n groups table ≡ Done) ↔ Startable n groups table
+unfolding startTaken
+start-done n groups table =
+    Iff·trans
+    (three-checks-iff (within 1 24 n) (allBelow n (λ p. zoneGroup (getD groups p 0))) (legalTable table)
+    PhyNumber
+    PhyGroup
+    IllegalTable
+    (within-iff 1 24 n)
+    (groups-iff n groups)
+    (legal-table table))
+    (λ p. record { number = p .0; groups-fit = p .1; legal = p .2 }, λ r. (r .number, r .groups-fit, r .legal))
+
+-- the device: phy p has the group that was given for it, and is fresh; past the phy number the group is 0
+pub fresh-phys : (n : ℕ) (groups table identifier : List ℕ) (p : ℕ) → p < 24 → phyAt (freshShelf n groups table identifier) p ≡ freshPhy (startGroup n groups p)
+unfolding freshShelf
+fresh-phys n groups table identifier p h = joinBelow-at 24 (λ q. freshPhy (startGroup n groups q)) noPhy p h
+
+-- "A refused start gives no device."
+pub start-refused : (n : ℕ) (groups table identifier : List ℕ) (house : House) → startTaken n groups table ≡ NotDone house → start n groups table identifier ≡ record { taken = NotDone house; shelf = noShelf }
+unfolding start
+start-refused n groups table identifier house e = rw e

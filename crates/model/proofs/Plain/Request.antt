@@ -1,0 +1,131 @@
+-- When a frame is a request, of a known function and of a right length, and which descriptor is the first unsupported one,
+-- in plain logic. Assumes nothing.
+use Prim.Native.Nat.{ℕ, zero, suc, _+_, _*_, _≤_, _<_, zero-le}
+use native.Mathlib.Nat.{eq-or-lt-of-le, not-le-of-lt}
+use native.Mathlib.Omega.{arith}
+use mathlib.Core.Path.{_≡_, refl, subst}
+use mathlib.Core.Logic.{_↔_, _⊎_, ⊎-elim}
+use mathlib.Core.Bool.{Bool, true, false, cond, _||_, or-assoc}
+use mathlib.Core.List.{List, [], _∷_, List·Memᴰ}
+use lib.Dec.{T, leb, eqb}
+use lib.ListN.{length}
+use Rattle.model.specs.Bytes.{byte}
+use Rattle.model.specs.Request.{isRequest, functionOf, known, shaped, lengthRight, descriptorSource, allowed, firstUnsupported}
+use Rattle.model.specs.Sources.{supported}
+use Rattle.model.specs.Tests.{oneOf}
+use Rattle.model.proofs.Laws.Tests.{both-iff, all-three-iff, either-iff, leb-iff, eqb-iff, oneOf-iff}
+
+-- not H6: four bytes or more, of which the first is 40h
+pub is-request : (frame : List ℕ) → T (isRequest frame) ↔ ((4 ≤ length frame) × (byte frame 0 ≡ 0x40))
+unfolding isRequest
+is-request frame =
+    both-iff (leb 4 (length frame)) (eqb (byte frame 0) 0x40) (leb-iff 4 (length frame)) (eqb-iff (byte frame 0) 0x40)
+
+-- not 01h: one of the seven functions
+pub known-iff : (function : ℕ) → T (known function) ↔ List·Memᴰ function (0x00 ∷ 0x01 ∷ 0x06 ∷ 0x11 ∷ 0x14 ∷ 0x91 ∷ 0x93 ∷ [])
+unfolding known
+known-iff function = oneOf-iff (0x00 ∷ 0x01 ∷ 0x06 ∷ 0x11 ∷ 0x14 ∷ 0x91 ∷ 0x93 ∷ []) function
+
+-- ---- not 03h
+
+-- a frame of this function, this true length, and one of these lengths in byte 3
+abbrev pub Shaped : List ℕ → ℕ → ℕ → List ℕ → Type 0
+Shaped frame function size lengths =
+    (functionOf frame ≡ function) × (length frame ≡ size) × List·Memᴰ (byte frame 3) lengths
+
+shaped-iff : (frame : List ℕ) (function size : ℕ) (lengths : List ℕ) → T (shaped frame function size lengths) ↔ Shaped frame function size lengths
+shaped-iff frame function size lengths =
+    all-three-iff (eqb (functionOf frame) function) (eqb (length frame) size) (oneOf lengths (byte frame 3))
+    (eqb-iff (functionOf frame) function)
+    (eqb-iff (length frame) size)
+    (oneOf-iff lengths (byte frame 3))
+
+one-of-seven : (a b c d e f g : Bool) {A B C D E F G : Type 0} → T a ↔ A → T b ↔ B → T c ↔ C → T d ↔ D → T e ↔ E → T f ↔ F → T g ↔ G → T (a || b || c || d || e || f || g) ↔ (A ⊎ B ⊎ C ⊎ D ⊎ E ⊎ F ⊎ G)
+one-of-seven a b c d e f g ia ib ic id ie if ig =
+    simp or-assoc
+    (either-iff a _ ia (either-iff b _ ib (either-iff c _ ic (either-iff d _ id (either-iff e _ ie (either-iff f g if ig))))))
+
+-- the seven shapes; a 93h has d in byte 11
+abbrev pub RightLength : List ℕ → Type 0
+RightLength frame =
+    Shaped frame 0x00 4 (0x00 ∷ [])
+    ⊎ Shaped frame 0x01 4 (0x00 ∷ [])
+    ⊎ Shaped frame 0x06 4 (0x00 ∷ [])
+    ⊎ Shaped frame 0x11 12 (0x02 ∷ 0x00 ∷ [])
+    ⊎ Shaped frame 0x14 12 (0x02 ∷ [])
+    ⊎ Shaped frame 0x91 40 (0x09 ∷ 0x00 ∷ [])
+    ⊎ Shaped frame 0x93 (12 + 8 * byte frame 11) ((2 + 2 * byte frame 11) ∷ [])
+
+pub length-right : (frame : List ℕ) → T (lengthRight frame) ↔ RightLength frame
+unfolding lengthRight
+length-right frame =
+    one-of-seven (shaped frame 0x00 4 (0x00 ∷ []))
+    (shaped frame 0x01 4 (0x00 ∷ []))
+    (shaped frame 0x06 4 (0x00 ∷ []))
+    (shaped frame 0x11 12 (0x02 ∷ 0x00 ∷ []))
+    (shaped frame 0x14 12 (0x02 ∷ []))
+    (shaped frame 0x91 40 (0x09 ∷ 0x00 ∷ []))
+    (shaped frame 0x93 (12 + 8 * byte frame 11) ((2 + 2 * byte frame 11) ∷ []))
+    (shaped-iff frame 0x00 4 (0x00 ∷ []))
+    (shaped-iff frame 0x01 4 (0x00 ∷ []))
+    (shaped-iff frame 0x06 4 (0x00 ∷ []))
+    (shaped-iff frame 0x11 12 (0x02 ∷ 0x00 ∷ []))
+    (shaped-iff frame 0x14 12 (0x02 ∷ []))
+    (shaped-iff frame 0x91 40 (0x09 ∷ 0x00 ∷ []))
+    (shaped-iff frame 0x93 (12 + 8 * byte frame 11) ((2 + 2 * byte frame 11) ∷ []))
+
+-- ---- the descriptors of a 93h
+
+pub allowed-iff : (source : ℕ) → T (allowed source) ↔ ((source ≡ 0x00) ⊎ T (supported source))
+unfolding allowed
+allowed-iff source = either-iff (eqb source 0x00) (supported source) (eqb-iff source 0x00) (λ t. t, λ t. t)
+
+-- Of the n descriptors from i on, r is the first that is not allowed, or the place past the last: those before it are
+-- allowed, and it is not.
+pub record First (frame : List ℕ) (n i r : ℕ) : Type 0 where
+  pub from : i ≤ r
+  pub to : r ≤ i + n
+  pub before : (k : ℕ) → i ≤ k → k < r → T (allowed (descriptorSource frame k))
+  pub at : r < i + n → T (allowed (descriptorSource frame r)) → ⊥
+
+pub first-unsupported : (frame : List ℕ) (n i : ℕ) → First frame n i (firstUnsupported frame n i)
+unfolding firstUnsupported
+first-unsupported frame zero i =
+    record {
+      from = omega arith;
+      to = omega arith;
+      before = λ k low high. absurd (not-le-of-lt high low);
+      at = λ h. absurd (not-le-of-lt h (omega arith));
+    }
+first-unsupported frame (suc n) i = go (allowed (descriptorSource frame i)) refl (first-unsupported frame n (suc i))
+  where
+    go : (b : Bool) → allowed (descriptorSource frame i) ≡ b → First frame n (suc i) (firstUnsupported frame n (suc i)) → First frame (suc n) i (cond b (firstUnsupported frame n (suc i)) i)
+    go true e rest =
+        record {
+          from = omega arith;
+          to = omega arith;
+          before = λ k low high.
+              ⊎-elim (λ i≡k. subst (λ (j : ℕ). T (allowed (descriptorSource frame j))) i≡k (rw e tt))
+              (λ i<k. rest .before k i<k high)
+              (eq-or-lt-of-le low);
+          at = λ h. rest .at (omega arith);
+        }
+    go false e rest =
+        record {
+          from = omega arith;
+          to = omega arith;
+          before = λ k low high. absurd (not-le-of-lt high low);
+          at = λ h t. rw e at t;
+        }
+
+-- so there is none exactly if every descriptor is allowed
+pub none-unsupported : (frame : List ℕ) (d : ℕ) → (firstUnsupported frame d 0 ≡ d) ↔ ((k : ℕ) → k < d → T (allowed (descriptorSource frame k)))
+none-unsupported frame d =
+    let first : First frame d 0 (firstUnsupported frame d 0) = first-unsupported frame d 0 in (
+      λ e k h. first .before k zero-le (rw e h),
+      λ all.
+          let fits : firstUnsupported frame d 0 ≤ d = omega arith in
+          ⊎-elim (λ e. e)
+          (λ l. absurd (first .at (omega arith) (all (firstUnsupported frame d 0) l)))
+          (eq-or-lt-of-le fits),
+    )
