@@ -2,4 +2,6 @@
 pub mod Tests
 pub mod Checks
 pub mod Bits
+pub mod Rising
+pub mod Join
 pub mod Picked

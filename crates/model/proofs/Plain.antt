@@ -7,3 +7,4 @@ pub mod Start
 pub mod Reports
 pub mod Request
 pub mod Results
+pub mod Reply

@@ -2,14 +2,12 @@
 use Prim.Native.Nat.{ℕ, zero, suc, _+_, _≤_, _<_}
 use native.Mathlib.Nat.{not-suc-le-zero, le-of-suc-le-suc, eq-or-lt-of-le}
 use native.Mathlib.Omega.{arith}
-use mathlib.Core.Path.{_≡_, refl, subst⁻¹, _∙_}
+use mathlib.Core.Path.{_≡_, refl, subst⁻¹}
 use mathlib.Core.Logic.{_↔_, _⊎_, inl, inr, ⊎-elim, Iff·trans, Iff·symm, Iff·and}
 use mathlib.Core.Bool.{Bool, true, false, _&&_, _||_, Bool·beq, or-assoc, true≢false, false≢true}
-use mathlib.Core.List.{List, [], _∷_, _++_, List·Memᴰ, List·Memᴰ·head, List·Memᴰ·tail, List·Memᴰ·cases-cons, List·Memᴰ·not-nil}
-use lib.ListN.{length, getD, length-append, List·getD-append}
-use lib.Seq.{getD-at}
+use mathlib.Core.List.{List, [], _∷_, List·Memᴰ, List·Memᴰ·head, List·Memᴰ·tail, List·Memᴰ·cases-cons, List·Memᴰ·not-nil}
 use lib.Dec.{T, leb, ltb, eqb, leb→le, le→leb, ltb→lt, lt→ltb, eqb→eq, eqb-refl}
-use Rattle.model.specs.Tests.{check, within, oneOf, allBelow, joinBelow}
+use Rattle.model.specs.Tests.{check, within, oneOf, allBelow}
 
 -- ---- Bool
 
@@ -97,22 +95,3 @@ allBelow-iff (suc n) test = (
 pub check-iff : {A : Type 0} (b : Bool) (failure rest good : A) → (failure ≡ good → ⊥) → (check b failure rest ≡ good) ↔ (T b × (rest ≡ good))
 check-iff true failure rest good bad = (λ e. (tt, e), λ h. h .1)
 check-iff false failure rest good bad = (λ e. absurd (bad e), λ h. absurd (h .0))
-
--- ---- one element to each number
-
-pub joinBelow-length : {A : Type 0} (n : ℕ) (of : ℕ → A) → length (joinBelow n (λ p. of p ∷ [])) ≡ n
-unfolding joinBelow
-joinBelow-length zero of = refl
-joinBelow-length (suc n) of = simp (length-append, joinBelow-length n of) (omega arith)
-
-pub joinBelow-at : {A : Type 0} (n : ℕ) (of : ℕ → A) (d : A) (p : ℕ) → p < n → getD (joinBelow n (λ q. of q ∷ [])) p d ≡ of p
-unfolding joinBelow
-joinBelow-at zero of d p h = absurd (not-suc-le-zero h)
-joinBelow-at {A} (suc n) of d p h =
-    below-suc (λ q. getD (joinBelow n (λ k. of k ∷ []) ++ (of n ∷ [])) q d ≡ of q) n
-    (λ q l.
-    let fits : q < length (joinBelow n (λ k. of k ∷ [])) = subst⁻¹ (λ (k : ℕ). q < k) (joinBelow-length n of) l in
-    List·getD-append (joinBelow n (λ k. of k ∷ [])) (of n ∷ []) d q fits ∙ joinBelow-at n of d q l)
-    (getD-at (joinBelow n (λ k. of k ∷ [])) (of n) [] d n (joinBelow-length n of))
-    p
-    h

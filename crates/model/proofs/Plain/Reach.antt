@@ -14,7 +14,8 @@ use Rattle.model.specs.Reach.{reaches, reachSet, reachNumber}
 use Rattle.model.specs.Shelf.{phyNumber, exists, phyAt}
 use Rattle.model.specs.Zone.{bit, row}
 use Rattle.model.proofs.Laws.Bits.{powers-lt, ones-powers, bit-powers-iff}
-use Rattle.model.proofs.Laws.Picked.{picked, Rising, picked-below, picked-all, picked-rising, picked-length}
+use Rattle.model.proofs.Laws.Picked.{picked, picked-iff, picked-rising, picked-length}
+use Rattle.model.proofs.Laws.Rising.{Rising}
 use Rattle.model.proofs.Laws.Tests.{ltb-iff}
 use Rattle.model.proofs.Plain.Zone.{row-reaches}
 
@@ -40,10 +41,9 @@ abbrev pub reachedPhys : Shelf → ℕ → List ℕ
 reachedPhys s g = picked (phyNumber s) (reaches s g)
 
 pub reached-phys : (s : Shelf) (g p : ℕ) → List·Memᴰ p (reachedPhys s g) ↔ ((p < phyNumber s) × T (reaches s g p))
-reached-phys s g p =
-    (picked-below (phyNumber s) (reaches s g) p, λ h. picked-all (phyNumber s) (reaches s g) p (h .0) (h .1))
+reached-phys s g p = picked-iff (phyNumber s) (reaches s g) p
 
-pub reached-rising : (s : Shelf) (g : ℕ) → Rising (reachedPhys s g)
+pub reached-rising : (s : Shelf) (g : ℕ) → Rising (λ p. p) (reachedPhys s g)
 reached-rising s g = picked-rising (phyNumber s) (reaches s g)
 
 -- the number is how many they are, and so the count of ones of the set

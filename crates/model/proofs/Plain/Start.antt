@@ -13,7 +13,8 @@ use Rattle.model.specs.Shelf.{phyAt, noPhy, freshPhy, startGroup, freshS
 use Rattle.model.specs.Tests.{within, allBelow}
 use Rattle.model.specs.Zone.{zoneGroup, legalTable}
 use Rattle.model.proofs.Laws.Checks.{three-checks-iff}
-use Rattle.model.proofs.Laws.Tests.{within-iff, leb-iff, allBelow-iff, joinBelow-at}
+use Rattle.model.proofs.Laws.Join.{join-at}
+use Rattle.model.proofs.Laws.Tests.{within-iff, leb-iff, allBelow-iff}
 use Rattle.model.proofs.Plain.Zone.{LegalTable, legal-table}
 
 -- none of H1, H2 and H3 applies
@@ -43,7 +44,7 @@ start-done n groups table =
 -- the device: phy p has the group that was given for it, and is fresh; past the phy number the group is 0
 pub fresh-phys : (n : ℕ) (groups table identifier : List ℕ) (p : ℕ) → p < 24 → phyAt (freshShelf n groups table identifier) p ≡ freshPhy (startGroup n groups p)
 unfolding freshShelf
-fresh-phys n groups table identifier p h = joinBelow-at 24 (λ q. freshPhy (startGroup n groups q)) noPhy p h
+fresh-phys n groups table identifier p h = join-at 24 (λ q. freshPhy (startGroup n groups q)) noPhy p h
 
 -- "A refused start gives no device."
 pub start-refused : (n : ℕ) (groups table identifier : List ℕ) (house : House) → startTaken n groups table ≡ NotDone house → start n groups table identifier ≡ record { taken = NotDone house; shelf = noShelf }
