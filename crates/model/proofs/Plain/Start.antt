@@ -47,6 +47,8 @@ unfolding freshShelf
 fresh-phys n groups table identifier p h = join-at 24 (λ q. freshPhy (startGroup n groups q)) noPhy p h
 
 -- "A refused start gives no device."
-pub start-refused : (n : ℕ) (groups table identifier : List ℕ) (house : House) → startTaken n groups table ≡ NotDone house → start n groups table identifier ≡ record { taken = NotDone house; shelf = noShelf }
+pub start-refused : (n : ℕ) (groups table identifier : List ℕ) (house : House)
+    → startTaken n groups table ≡ NotDone house
+    → start n groups table identifier ≡ record { taken = NotDone house; shelf = noShelf }
 unfolding start
 start-refused n groups table identifier house e = rw e
