@@ -46,7 +46,8 @@ ones-powers (suc n) test =
     ∙ ones-cat n (cond (test n) 1 0) (powers n test) (powers-lt n test)
     ∙ count (test n) (ones-powers n test)
   where
-    count : (b : Bool) → ones (powers n test) ≡ tally n test → ones (cond b 1 0) + ones (powers n test) ≡ tally n test + cond b 1 0
+    count : (b : Bool) → ones (powers n test) ≡ tally n test
+        → ones (cond b 1 0) + ones (powers n test) ≡ tally n test + cond b 1 0
     count true e = omega arith
     count false e = omega arith
 

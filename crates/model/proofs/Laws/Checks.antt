@@ -14,10 +14,13 @@ use Rattle.model.proofs.Laws.Tests.{check-iff}
 pub refused-not-done : (house : House) → NotDone house ≡ Done → ⊥
 refused-not-done house e = let z : _≡_ {A = ℕ} 0 1 = cc in omega arith
 
-pub one-check-iff : (a : Bool) (h : House) (rest : Taken) → (check a (NotDone h) rest ≡ Done) ↔ (T a × (rest ≡ Done))
+pub one-check-iff : (a : Bool) (h : House) (rest : Taken)
+    → (check a (NotDone h) rest ≡ Done) ↔ (T a × (rest ≡ Done))
 one-check-iff a h rest = check-iff a (NotDone h) rest Done (refused-not-done h)
 
-pub three-checks-iff : (a b c : Bool) (h₁ h₂ h₃ : House) {A B C : Type 0} → T a ↔ A → T b ↔ B → T c ↔ C → (check a (NotDone h₁) (check b (NotDone h₂) (check c (NotDone h₃) Done)) ≡ Done) ↔ (A × B × C)
+pub three-checks-iff : (a b c : Bool) (h₁ h₂ h₃ : House) {A B C : Type 0}
+    → T a ↔ A → T b ↔ B → T c ↔ C
+    → (check a (NotDone h₁) (check b (NotDone h₂) (check c (NotDone h₃) Done)) ≡ Done) ↔ (A × B × C)
 three-checks-iff a b c h₁ h₂ h₃ f g h = (
   λ e.
       let (x, e₁) = one-check-iff a h₁ (check b (NotDone h₂) (check c (NotDone h₃) Done)) .0 e in

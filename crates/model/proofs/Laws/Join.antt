@@ -20,7 +20,8 @@ unfolding joinBelow
 join-length zero of = refl
 join-length (suc n) of = simp (length-append, join-length n of) (omega arith)
 
-pub join-at : {A : Type 0} (n : ℕ) (of : ℕ → A) (d : A) (p : ℕ) → p < n → getD (joinBelow n (λ q. of q ∷ [])) p d ≡ of p
+pub join-at : {A : Type 0} (n : ℕ) (of : ℕ → A) (d : A) (p : ℕ) → p < n
+    → getD (joinBelow n (λ q. of q ∷ [])) p d ≡ of p
 unfolding joinBelow
 join-at zero of d p h = absurd (not-suc-le-zero h)
 join-at {A} (suc n) of d p h =
@@ -34,7 +35,8 @@ join-at {A} (suc n) of d p h =
 
 -- ---- what is in it
 
-pub join-has : {A : Type 0} (n : ℕ) (of : ℕ → List A) {a : A} → List·Memᴰ a (joinBelow n of) → (p : ℕ) × (p < n) × List·Memᴰ a (of p)
+pub join-has : {A : Type 0} (n : ℕ) (of : ℕ → List A) {a : A} → List·Memᴰ a (joinBelow n of)
+    → (p : ℕ) × (p < n) × List·Memᴰ a (of p)
 unfolding joinBelow
 join-has zero of m = absurd (List·Memᴰ·not-nil m)
 join-has (suc n) of m =
@@ -45,7 +47,8 @@ join-has (suc n) of m =
     (λ m′. (n, le-refl (suc n), m′))
     (List·Memᴰ·append-cases (joinBelow n of) m)
 
-pub has-join : {A : Type 0} (n : ℕ) (of : ℕ → List A) {a : A} (p : ℕ) → p < n → List·Memᴰ a (of p) → List·Memᴰ a (joinBelow n of)
+pub has-join : {A : Type 0} (n : ℕ) (of : ℕ → List A) {a : A} (p : ℕ) → p < n → List·Memᴰ a (of p)
+    → List·Memᴰ a (joinBelow n of)
 unfolding joinBelow
 has-join zero of p h m = absurd (not-suc-le-zero h)
 has-join (suc n) of {a} p h m =
@@ -62,7 +65,9 @@ module _ {A : Type 0} (key : A → ℕ) (of : ℕ → List A) (low : ℕ → ℕ
   reaches-up : (p n : ℕ) → p ≤ n → low p ≤ low n
   reaches-up p n h = le-ind (λ (m : ℕ). low p ≤ low m) (le-refl (low p)) (λ m l e. le-trans e (climbs m)) n h
 
-  pub join-rising : (n : ℕ) → ((p : ℕ) (x : A) → p < n → List·Memᴰ x (of p) → (low p ≤ key x) × (key x < low (suc p))) → ((p : ℕ) → Rising key (of p)) → Rising key (joinBelow n of)
+  pub join-rising : (n : ℕ)
+      → ((p : ℕ) (x : A) → p < n → List·Memᴰ x (of p) → (low p ≤ key x) × (key x < low (suc p)))
+      → ((p : ℕ) → Rising key (of p)) → Rising key (joinBelow n of)
   unfolding joinBelow
   join-rising zero apart each = tt
   join-rising (suc n) apart each =

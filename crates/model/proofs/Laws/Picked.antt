@@ -19,7 +19,9 @@ onlyIf b xs = cond b xs []
 abbrev pub picked : ℕ → (ℕ → Bool) → List ℕ
 picked n test = joinBelow n (λ p. onlyIf (test p) (p ∷ []))
 
-pub onlyIf-iff : {A : Type 0} (b : Bool) (xs : List A) {a : A} → List·Memᴰ a (onlyIf b xs) ↔ (T b × List·Memᴰ a xs)
+pub onlyIf-iff : {A : Type 0} (b : Bool) (xs : List A) {a : A}
+    → List·Memᴰ a (onlyIf b xs)
+    ↔ (T b × List·Memᴰ a xs)
 onlyIf-iff true xs = (λ m. (tt, m), λ h. h .1)
 onlyIf-iff false xs = (λ m. absurd (List·Memᴰ·not-nil m), λ h. absurd (h .0))
 
@@ -49,6 +51,7 @@ unfolding joinBelow sumBelow
 picked-length zero test = refl
 picked-length (suc n) test = simp length-append (go (test n) (picked-length n test))
   where
-    go : (b : Bool) → length (picked n test) ≡ tally n test → length (picked n test) + length (onlyIf b (n ∷ [])) ≡ tally n test + cond b 1 0
+    go : (b : Bool) → length (picked n test) ≡ tally n test
+        → length (picked n test) + length (onlyIf b (n ∷ [])) ≡ tally n test + cond b 1 0
     go true e = omega arith
     go false e = omega arith

@@ -14,7 +14,8 @@ module _ {A : Type 0} (key : A → ℕ) where
   rising-one x = (λ y m. absurd (List·Memᴰ·not-nil m), tt)
 
   -- one rising list after another, where all of the first are below all of the second
-  pub rising-append : (xs ys : List A) → Rising key xs → Rising key ys → ((x y : A) → List·Memᴰ x xs → List·Memᴰ y ys → key x < key y) → Rising key (xs ++ ys)
+  pub rising-append : (xs ys : List A) → Rising key xs → Rising key ys
+      → ((x y : A) → List·Memᴰ x xs → List·Memᴰ y ys → key x < key y) → Rising key (xs ++ ys)
   rising-append [] ys rx ry below = ry
   rising-append (x ∷ xs) ys rx ry below = (
     λ y m.

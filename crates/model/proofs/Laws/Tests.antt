@@ -29,7 +29,8 @@ same-iff false false = (λ t. refl, λ e. tt)
 pub both-iff : (a b : Bool) {A B : Type 0} → T a ↔ A → T b ↔ B → T (a && b) ↔ (A × B)
 both-iff a b f g = Iff·trans (and-iff a b) (Iff·and f g)
 
-pub all-three-iff : (a b c : Bool) {A B C : Type 0} → T a ↔ A → T b ↔ B → T c ↔ C → T (a && b && c) ↔ (A × B × C)
+pub all-three-iff : (a b c : Bool) {A B C : Type 0}
+    → T a ↔ A → T b ↔ B → T c ↔ C → T (a && b && c) ↔ (A × B × C)
 all-three-iff a b c f g h = (
   λ t.
       let ((x, y), z) = both-iff (a && b) c (both-iff a b f g) h .0 t in
@@ -44,7 +45,8 @@ either-iff a b f g = Iff·trans (or-iff a b) (⊎-iff f g)
     ⊎-iff f′ g′ =
         (⊎-elim (λ x. inl (f′ .0 x)) (λ y. inr (g′ .0 y)), ⊎-elim (λ x. inl (f′ .1 x)) (λ y. inr (g′ .1 y)))
 
-pub one-of-three-iff : (a b c : Bool) {A B C : Type 0} → T a ↔ A → T b ↔ B → T c ↔ C → T (a || b || c) ↔ (A ⊎ B ⊎ C)
+pub one-of-three-iff : (a b c : Bool) {A B C : Type 0}
+    → T a ↔ A → T b ↔ B → T c ↔ C → T (a || b || c) ↔ (A ⊎ B ⊎ C)
 one-of-three-iff a b c f g h = rw or-assoc (either-iff a (b || c) f (either-iff b c g h))
 
 -- ---- numbers
@@ -92,6 +94,7 @@ allBelow-iff (suc n) test = (
 -- ---- the first failure decides
 
 -- a check with something good behind it comes out good exactly if its test holds and the rest comes out good
-pub check-iff : {A : Type 0} (b : Bool) (failure rest good : A) → (failure ≡ good → ⊥) → (check b failure rest ≡ good) ↔ (T b × (rest ≡ good))
+pub check-iff : {A : Type 0} (b : Bool) (failure rest good : A) → (failure ≡ good → ⊥)
+    → (check b failure rest ≡ good) ↔ (T b × (rest ≡ good))
 check-iff true failure rest good bad = (λ e. (tt, e), λ h. h .1)
 check-iff false failure rest good bad = (λ e. absurd (bad e), λ h. absurd (h .0))

@@ -24,7 +24,9 @@ pub exists-iff : (s : Shelf) (p : ℕ) → T (exists s p) ↔ ((p < s .number) �
 exists-iff s p = Iff·trans (ltb-iff p (phyNumber s)) (λ h. (omega arith, omega arith), λ h. omega arith)
 
 -- "A source reaches a phy if its row has the bit of the phy's group."
-pub reaches-iff : (s : Shelf) (g p : ℕ) → T (reaches s g p) ↔ ((phyAt s p .group ≤ 31) × (row (s .table) g / 2 ^ phyAt s p .group % 2 ≡ 1))
+pub reaches-iff : (s : Shelf) (g p : ℕ)
+    → T (reaches s g p)
+    ↔ ((phyAt s p .group ≤ 31) × (row (s .table) g / 2 ^ phyAt s p .group % 2 ≡ 1))
 reaches-iff s g p = row-reaches (row (s .table) g) (phyAt s p .group)
 
 -- the set has bit p exactly if phy p exists and is reached, and fits in 24 bits
@@ -40,7 +42,9 @@ reach-set-fits s g = lt-of-lt-of-le (powers-lt (phyNumber s) (reaches s g)) (pow
 abbrev pub reachedPhys : Shelf → ℕ → List ℕ
 reachedPhys s g = picked (phyNumber s) (reaches s g)
 
-pub reached-phys : (s : Shelf) (g p : ℕ) → List·Memᴰ p (reachedPhys s g) ↔ ((p < phyNumber s) × T (reaches s g p))
+pub reached-phys : (s : Shelf) (g p : ℕ)
+    → List·Memᴰ p (reachedPhys s g)
+    ↔ ((p < phyNumber s) × T (reaches s g p))
 reached-phys s g p = picked-iff (phyNumber s) (reaches s g) p
 
 pub reached-rising : (s : Shelf) (g : ℕ) → Rising (λ p. p) (reachedPhys s g)

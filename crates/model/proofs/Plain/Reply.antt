@@ -37,10 +37,12 @@ Sees s g p = (p ≡ 0xFF) ⊎ (T (exists s p) × T (reaches s g p))
 
 -- ---- one count
 
-listed-has : (p r n p′ r′ n′ : ℕ) → List·Memᴰ (entry p r n) (listed p′ r′ n′) → (n ≡ 0 → ⊥) × (p ≡ p′) × (r ≡ r′) × (n ≡ n′)
+listed-has : (p r n p′ r′ n′ : ℕ) → List·Memᴰ (entry p r n) (listed p′ r′ n′)
+    → (n ≡ 0 → ⊥) × (p ≡ p′) × (r ≡ r′) × (n ≡ n′)
 listed-has p r n p′ r′ n′ m = go (eqb n′ 0) refl m
   where
-    go : (b : Bool) → eqb n′ 0 ≡ b → List·Memᴰ (entry p r n) (cond b [] (entry p′ r′ n′ ∷ [])) → (n ≡ 0 → ⊥) × (p ≡ p′) × (r ≡ r′) × (n ≡ n′)
+    go : (b : Bool) → eqb n′ 0 ≡ b → List·Memᴰ (entry p r n) (cond b [] (entry p′ r′ n′ ∷ []))
+        → (n ≡ 0 → ⊥) × (p ≡ p′) × (r ≡ r′) × (n ≡ n′)
     go true e m′ = absurd (List·Memᴰ·not-nil m′)
     go false e m′ =
         let same : entry p r n ≡ entry p′ r′ n′ = List·Memᴰ·eq-of-singleton m′ in
@@ -53,17 +55,20 @@ has-listed p r n n′ some en = rw (← en, ne-eqb n 0 some) (List·Memᴰ·head
 -- ---- what is listed is kept, and is not 0
 
 -- a list that is chosen by the type
-chosen : {A : Type 0} (kind k : ℕ) (xs ys : List A) {a : A} → List·Memᴰ a (cond (eqb kind k) xs ys) → ((kind ≡ k) × List·Memᴰ a xs) ⊎ List·Memᴰ a ys
+chosen : {A : Type 0} (kind k : ℕ) (xs ys : List A) {a : A} → List·Memᴰ a (cond (eqb kind k) xs ys)
+    → ((kind ≡ k) × List·Memᴰ a xs) ⊎ List·Memᴰ a ys
 chosen kind k xs ys {a} m = go (eqb kind k) refl m
   where
-    go : (b : Bool) → eqb kind k ≡ b → List·Memᴰ a (cond b xs ys) → ((kind ≡ k) × List·Memᴰ a xs) ⊎ List·Memᴰ a ys
+    go : (b : Bool) → eqb kind k ≡ b → List·Memᴰ a (cond b xs ys)
+        → ((kind ≡ k) × List·Memᴰ a xs) ⊎ List·Memᴰ a ys
     go true e m′ = inl (eqb-true kind k e, m′)
     go false e m′ = inr m′
 
 abbrev Due : Shelf → ℕ → ℕ → ℕ → ℕ → Type 0
 Due s kind p r n = Kept s kind p r n × (n ≡ 0 → ⊥)
 
-device-has : (s : Shelf) (kind p r n : ℕ) → List·Memᴰ (entry p r n) (deviceListed kind s) → (p ≡ 0xFF) × Due s kind p r n
+device-has : (s : Shelf) (kind p r n : ℕ) → List·Memᴰ (entry p r n) (deviceListed kind s)
+    → (p ≡ 0xFF) × Due s kind p r n
 unfolding deviceListed
 device-has s kind p r n m =
     ⊎-elim
@@ -80,7 +85,8 @@ device-has s kind p r n m =
     (chosen kind 0x3 (listed 0xFF 0x0 (s .ses0)) (cond (eqb kind 0x4) (listed 0xFF 0x3 (s .expander3)) []) m)
 
 -- q is the phy that is looked at
-phy-has : (s : Shelf) (kind q p r n : ℕ) → T (exists s q) → List·Memᴰ (entry p r n) (phyListed kind q (phyAt s q)) → (p ≡ q) × Due s kind q r n
+phy-has : (s : Shelf) (kind q p r n : ℕ) → T (exists s q)
+    → List·Memᴰ (entry p r n) (phyListed kind q (phyAt s q)) → (p ≡ q) × Due s kind q r n
 unfolding phyListed
 phy-has s kind q p r n there m =
     let first : List Broadcast = listed q 0x1 (phyAt s q .expander1) in
@@ -108,7 +114,8 @@ phy-has s kind q p r n there m =
 abbrev ofPhy : Shelf → ℕ → ℕ → ℕ → List Broadcast
 ofPhy s g kind p = onlyIf (reaches s g p) (phyListed kind p (phyAt s p))
 
-broadcasts-has : (s : Shelf) (g kind p r n : ℕ) → List·Memᴰ (entry p r n) (broadcasts s g kind) → Kept s kind p r n × Sees s g p × (n ≡ 0 → ⊥)
+broadcasts-has : (s : Shelf) (g kind p r n : ℕ) → List·Memᴰ (entry p r n) (broadcasts s g kind)
+    → Kept s kind p r n × Sees s g p × (n ≡ 0 → ⊥)
 unfolding broadcasts
 broadcasts-has s g kind p r n m =
     ⊎-elim
@@ -130,7 +137,8 @@ broadcasts-has s g kind p r n m =
 
 module _ (s : Shelf) (g : ℕ) where
   -- a count of a phy that exists
-  has-phy : (kind p r n : ℕ) → T (exists s p) → Sees s g p → List·Memᴰ (entry p r n) (phyListed kind p (phyAt s p)) → List·Memᴰ (entry p r n) (broadcasts s g kind)
+  has-phy : (kind p r n : ℕ) → T (exists s p) → Sees s g p
+      → List·Memᴰ (entry p r n) (phyListed kind p (phyAt s p)) → List·Memᴰ (entry p r n) (broadcasts s g kind)
   unfolding broadcasts
   has-phy kind p r n there (inl ff) m = absurd (omega (arith, ltb-iff p (phyNumber s) .0 there))
   has-phy kind p r n there (inr (here, reached)) m =
@@ -138,10 +146,12 @@ module _ (s : Shelf) (g : ℕ) where
       (has-join (phyNumber s) (ofPhy s g kind) p (ltb-iff p (phyNumber s) .0 there) (onlyIf-iff (reaches s g p) (phyListed kind p (phyAt s p)) .1 (reached, m)))
 
   -- a count at its own type, phy and reason
-  moved : (kind k p q r r′ n : ℕ) → kind ≡ k → p ≡ q → r ≡ r′ → List·Memᴰ (entry q r′ n) (broadcasts s g k) → List·Memᴰ (entry p r n) (broadcasts s g kind)
+  moved : (kind k p q r r′ n : ℕ) → kind ≡ k → p ≡ q → r ≡ r′ → List·Memᴰ (entry q r′ n) (broadcasts s g k)
+      → List·Memᴰ (entry p r n) (broadcasts s g kind)
   moved kind k p q r r′ n ek ep er m = rw (ek, ep, er) m
 
-  has-broadcasts : (kind p r n : ℕ) → Kept s kind p r n → Sees s g p → (n ≡ 0 → ⊥) → List·Memᴰ (entry p r n) (broadcasts s g kind)
+  has-broadcasts : (kind p r n : ℕ) → Kept s kind p r n → Sees s g p → (n ≡ 0 → ⊥)
+      → List·Memᴰ (entry p r n) (broadcasts s g kind)
   unfolding broadcasts deviceListed phyListed
   has-broadcasts kind p r n (Change0 ek there er en) sees some =
       moved kind 0x0 p p r 0x0 n ek refl er (has-phy 0x0 p 0x0 n there sees (has-listed p 0x0 n (phyAt s p .change0) some en))
@@ -161,7 +171,9 @@ module _ (s : Shelf) (g : ℕ) where
       (Memᴰ·append-left (joinBelow (phyNumber s) (ofPhy s g 0x3)) (has-listed 0xFF 0x0 n (s .ses0) some en))
 
 -- 06h lists exactly the counts of that type that are kept, that the source sees, and that are not 0
-pub listed-iff : (s : Shelf) (g kind p r n : ℕ) → List·Memᴰ (entry p r n) (broadcasts s g kind) ↔ (Kept s kind p r n × Sees s g p × (n ≡ 0 → ⊥))
+pub listed-iff : (s : Shelf) (g kind p r n : ℕ)
+    → List·Memᴰ (entry p r n) (broadcasts s g kind)
+    ↔ (Kept s kind p r n × Sees s g p × (n ≡ 0 → ⊥))
 listed-iff s g kind p r n =
     (broadcasts-has s g kind p r n, λ h. has-broadcasts s g kind p r n (h .0) (h .1) (h .2))
 
@@ -198,7 +210,8 @@ rising-device s kind =
 place-reason : (b c : Broadcast) → b .phy ≡ c .phy → b .reason < c .reason → place b < place c
 place-reason b c e h = rw e (go (eqb (c .phy) 0xFF))
   where
-    go : (t : Bool) → cond t (b .reason) (4 * suc (c .phy) + b .reason) < cond t (c .reason) (4 * suc (c .phy) + c .reason)
+    go : (t : Bool)
+        → cond t (b .reason) (4 * suc (c .phy) + b .reason) < cond t (c .reason) (4 * suc (c .phy) + c .reason)
     go true = h
     go false = omega arith
 
@@ -217,7 +230,8 @@ rising-phy kind p x =
     tt)
 
 -- what one phy gives lies between its own places and the next phy's
-phy-places : (s : Shelf) (g kind p : ℕ) (b : Broadcast) → p < phyNumber s → List·Memᴰ b (ofPhy s g kind p) → (4 * suc p ≤ place b) × (place b < 4 * suc (suc p))
+phy-places : (s : Shelf) (g kind p : ℕ) (b : Broadcast) → p < phyNumber s → List·Memᴰ b (ofPhy s g kind p)
+    → (4 * suc p ≤ place b) × (place b < 4 * suc (suc p))
 phy-places s g kind p b h m =
     let listed-there = onlyIf-iff (reaches s g p) (phyListed kind p (phyAt s p)) .0 m .1 in
     let (same, due) = phy-has s kind p (b .phy) (b .reason) (b .count) (ltb-iff p (phyNumber s) .1 h) listed-there in

@@ -16,7 +16,9 @@ use Rattle.model.proofs.Laws.Tests.{both-iff, either-iff, eqb-iff, ltb-
 use Rattle.model.proofs.Plain.Sources.{zero-unsupported}
 
 -- H9: "amount above FFh for 2Bh, or above FFFFh for 2Ch"
-pub amount-iff : (source amount : ℕ) → T (amountTooLarge source amount) ↔ (((source ≡ 0x2B) × (0xFF < amount)) ⊎ ((source ≡ 0x2C) × (0xFFFF < amount)))
+pub amount-iff : (source amount : ℕ)
+    → T (amountTooLarge source amount)
+    ↔ (((source ≡ 0x2B) × (0xFF < amount)) ⊎ ((source ≡ 0x2C) × (0xFFFF < amount)))
 unfolding amountTooLarge
 amount-iff source amount =
     either-iff (eqb source 0x2B && ltb 0xFF amount) (eqb source 0x2C && ltb 0xFFFF amount)
@@ -44,7 +46,9 @@ source-iff source =
 not-above : {m n : ℕ} → (m < n → ⊥) → n ≤ m
 not-above h = le-of-suc-le-suc (lt-of-not-le h)
 
-amounts-iff : (source amount : ℕ) → T (not (amountTooLarge source amount)) ↔ ((source ≡ 0x2B → amount ≤ 0xFF) × (source ≡ 0x2C → amount ≤ 0xFFFF))
+amounts-iff : (source amount : ℕ)
+    → T (not (amountTooLarge source amount))
+    ↔ ((source ≡ 0x2B → amount ≤ 0xFF) × (source ≡ 0x2C → amount ≤ 0xFFFF))
 amounts-iff source amount = (
   λ t. (
     λ e. not-above (λ l. T-not (amountTooLarge source amount) t (amount-iff source amount .1 (inl (e, l)))),
@@ -56,7 +60,9 @@ amounts-iff source amount = (
       ⊎-elim (λ h. not-le-of-lt (h .1) (f .0 (h .0))) (λ h. not-le-of-lt (h .1) (f .1 (h .0))) (amount-iff source amount .0 t)),
 )
 
-pub event-done : (s : Shelf) (p source amount : ℕ) → (eventTaken s p source amount ≡ Done) ↔ Reportable s p source amount
+pub event-done : (s : Shelf) (p source amount : ℕ)
+    → (eventTaken s p source amount ≡ Done)
+    ↔ Reportable s p source amount
 unfolding eventTaken
 event-done s p source amount =
     Iff·trans

@@ -22,7 +22,9 @@ is-request frame =
     both-iff (leb 4 (length frame)) (eqb (byte frame 0) 0x40) (leb-iff 4 (length frame)) (eqb-iff (byte frame 0) 0x40)
 
 -- not 01h: one of the seven functions
-pub known-iff : (function : ℕ) → T (known function) ↔ List·Memᴰ function (0x00 ∷ 0x01 ∷ 0x06 ∷ 0x11 ∷ 0x14 ∷ 0x91 ∷ 0x93 ∷ [])
+pub known-iff : (function : ℕ)
+    → T (known function)
+    ↔ List·Memᴰ function (0x00 ∷ 0x01 ∷ 0x06 ∷ 0x11 ∷ 0x14 ∷ 0x91 ∷ 0x93 ∷ [])
 unfolding known
 known-iff function = oneOf-iff (0x00 ∷ 0x01 ∷ 0x06 ∷ 0x11 ∷ 0x14 ∷ 0x91 ∷ 0x93 ∷ []) function
 
@@ -33,14 +35,18 @@ abbrev pub Shaped : List ℕ → ℕ → ℕ → List ℕ → Type 0
 Shaped frame function size lengths =
     (functionOf frame ≡ function) × (length frame ≡ size) × List·Memᴰ (byte frame 3) lengths
 
-shaped-iff : (frame : List ℕ) (function size : ℕ) (lengths : List ℕ) → T (shaped frame function size lengths) ↔ Shaped frame function size lengths
+shaped-iff : (frame : List ℕ) (function size : ℕ) (lengths : List ℕ)
+    → T (shaped frame function size lengths)
+    ↔ Shaped frame function size lengths
 shaped-iff frame function size lengths =
     all-three-iff (eqb (functionOf frame) function) (eqb (length frame) size) (oneOf lengths (byte frame 3))
     (eqb-iff (functionOf frame) function)
     (eqb-iff (length frame) size)
     (oneOf-iff lengths (byte frame 3))
 
-one-of-seven : (a b c d e f g : Bool) {A B C D E F G : Type 0} → T a ↔ A → T b ↔ B → T c ↔ C → T d ↔ D → T e ↔ E → T f ↔ F → T g ↔ G → T (a || b || c || d || e || f || g) ↔ (A ⊎ B ⊎ C ⊎ D ⊎ E ⊎ F ⊎ G)
+one-of-seven : (a b c d e f g : Bool) {A B C D E F G : Type 0}
+    → T a ↔ A → T b ↔ B → T c ↔ C → T d ↔ D → T e ↔ E → T f ↔ F → T g ↔ G
+    → T (a || b || c || d || e || f || g) ↔ (A ⊎ B ⊎ C ⊎ D ⊎ E ⊎ F ⊎ G)
 one-of-seven a b c d e f g ia ib ic id ie if ig =
     simp or-assoc
     (either-iff a _ ia (either-iff b _ ib (either-iff c _ ic (either-iff d _ id (either-iff e _ ie (either-iff f g if ig))))))
@@ -99,7 +105,9 @@ first-unsupported frame zero i =
     }
 first-unsupported frame (suc n) i = go (allowed (descriptorSource frame i)) refl (first-unsupported frame n (suc i))
   where
-    go : (b : Bool) → allowed (descriptorSource frame i) ≡ b → First frame n (suc i) (firstUnsupported frame n (suc i)) → First frame (suc n) i (cond b (firstUnsupported frame n (suc i)) i)
+    go : (b : Bool) → allowed (descriptorSource frame i) ≡ b
+        → First frame n (suc i) (firstUnsupported frame n (suc i))
+        → First frame (suc n) i (cond b (firstUnsupported frame n (suc i)) i)
     go true e rest =
         record {
           from = omega arith;
@@ -119,7 +127,9 @@ first-unsupported frame (suc n) i = go (allowed (descriptorSource frame i)) refl
         }
 
 -- so there is none exactly if every descriptor is allowed
-pub none-unsupported : (frame : List ℕ) (d : ℕ) → (firstUnsupported frame d 0 ≡ d) ↔ ((k : ℕ) → k < d → T (allowed (descriptorSource frame k)))
+pub none-unsupported : (frame : List ℕ) (d : ℕ)
+    → (firstUnsupported frame d 0 ≡ d)
+    ↔ ((k : ℕ) → k < d → T (allowed (descriptorSource frame k)))
 none-unsupported frame d =
     let first : First frame d 0 (firstUnsupported frame d 0) = first-unsupported frame d 0 in (
       λ e k h. first .before k zero-le (rw e h),

@@ -9,11 +9,15 @@ use Rattle.model.specs.Results.{countRight, knownOperation}
 use Rattle.model.proofs.Laws.Tests.{oneOf-iff}
 
 -- not 04h: the expected count is 0000h or the present count
-pub count-right : (s : Shelf) (expected : ℕ) → T (countRight s expected) ↔ List·Memᴰ expected (0x0000 ∷ s .changes ∷ [])
+pub count-right : (s : Shelf) (expected : ℕ)
+    → T (countRight s expected)
+    ↔ List·Memᴰ expected (0x0000 ∷ s .changes ∷ [])
 unfolding countRight
 count-right s expected = oneOf-iff (0x0000 ∷ s .changes ∷ []) expected
 
 -- not 13h: one of the four operations
-pub known-operation : (operation : ℕ) → T (knownOperation operation) ↔ List·Memᴰ operation (0x00 ∷ 0x01 ∷ 0x03 ∷ 0x05 ∷ [])
+pub known-operation : (operation : ℕ)
+    → T (knownOperation operation)
+    ↔ List·Memᴰ operation (0x00 ∷ 0x01 ∷ 0x03 ∷ 0x05 ∷ [])
 unfolding knownOperation
 known-operation operation = oneOf-iff (0x00 ∷ 0x01 ∷ 0x03 ∷ 0x05 ∷ []) operation

@@ -8,7 +8,9 @@ use Rattle.model.specs.Tests.{within}
 use Rattle.model.proofs.Laws.Tests.{or-iff, one-of-three-iff, within-iff}
 
 -- "counting 01h to 06h, 20h to 2Ah, 40h to 45h"
-pub counting-iff : (source : ℕ) → T (counting source) ↔ (((0x01 ≤ source) × (source ≤ 0x06)) ⊎ ((0x20 ≤ source) × (source ≤ 0x2A)) ⊎ ((0x40 ≤ source) × (source ≤ 0x45)))
+pub counting-iff : (source : ℕ)
+    → T (counting source)
+    ↔ (((0x01 ≤ source) × (source ≤ 0x06)) ⊎ ((0x20 ≤ source) × (source ≤ 0x2A)) ⊎ ((0x40 ≤ source) × (source ≤ 0x45)))
 unfolding counting
 counting-iff source =
     one-of-three-iff (within 0x01 0x06 source) (within 0x20 0x2A source) (within 0x40 0x45 source)

@@ -23,7 +23,9 @@ pub record Startable (n : ℕ) (groups table : List ℕ) : Type 0 where
   pub groups-fit : (p : ℕ) → p < n → getD groups p 0 ≤ 31
   pub legal : LegalTable table
 
-groups-iff : (n : ℕ) (groups : List ℕ) → T (allBelow n (λ p. zoneGroup (getD groups p 0))) ↔ ((p : ℕ) → p < n → getD groups p 0 ≤ 31)
+groups-iff : (n : ℕ) (groups : List ℕ)
+    → T (allBelow n (λ p. zoneGroup (getD groups p 0)))
+    ↔ ((p : ℕ) → p < n → getD groups p 0 ≤ 31)
 groups-iff n groups =
     Iff·trans (allBelow-iff n (λ p. zoneGroup (getD groups p 0)))
     (λ f p h. leb-iff (getD groups p 0) 31 .0 (f p h), λ f p h. leb-iff (getD groups p 0) 31 .1 (f p h))
@@ -42,7 +44,8 @@ start-done n groups table =
     (λ p. record { number = p .0; groups-fit = p .1; legal = p .2 }, λ r. (r .number, r .groups-fit, r .legal))
 
 -- the device: phy p has the group that was given for it, and is fresh; past the phy number the group is 0
-pub fresh-phys : (n : ℕ) (groups table identifier : List ℕ) (p : ℕ) → p < 24 → phyAt (freshShelf n groups table identifier) p ≡ freshPhy (startGroup n groups p)
+pub fresh-phys : (n : ℕ) (groups table identifier : List ℕ) (p : ℕ) → p < 24
+    → phyAt (freshShelf n groups table identifier) p ≡ freshPhy (startGroup n groups p)
 unfolding freshShelf
 fresh-phys n groups table identifier p h = join-at 24 (λ q. freshPhy (startGroup n groups q)) noPhy p h
 

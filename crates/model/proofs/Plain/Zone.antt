@@ -24,7 +24,9 @@ pub record LegalTable (table : List ℕ) : Type 0 where
   pub row-1 : row table 1 ≡ 0xFFFFFFFF
   pub row-0 : row table 0 ≡ 0x00000002
 
-symmetric-iff : (table : List ℕ) → T (symmetric table) ↔ ((g h : ℕ) → g < 32 → h < 32 → bit (row table g) h ≡ bit (row table h) g)
+symmetric-iff : (table : List ℕ)
+    → T (symmetric table)
+    ↔ ((g h : ℕ) → g < 32 → h < 32 → bit (row table g) h ≡ bit (row table h) g)
 unfolding symmetric
 symmetric-iff table = (
   λ t g h gb hb. same-iff (bit (row table g) h) (bit (row table h) g) .0 (allBelow-iff 32 _ .0 (allBelow-iff 32 _ .0 t g gb) h hb),
