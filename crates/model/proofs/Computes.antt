@@ -1,8 +1,10 @@
 -- A proof that says `unfolding computes` may run every definition of document 01 on numbers: the names are listed here, once.
 use Prim.Native.Nat.{ℕ}
-use Rattle.model.specs.Counting.{originate, addWrapping, addSaturating, counted, crosses, originateCrossings, addError, eventOn, changeOn}
+use Rattle.model.specs.Counting.{originate, addWrapping, addSaturating, counted, crosses, originateCrossings}
+use Rattle.model.specs.Counting.{addError, eventOn, changeOn}
 use Rattle.model.specs.Reach.{reachSet, reachNumber, reachQuery}
-use Rattle.model.specs.Reply.{reportGeneral, reportManufacturer, reportPhyErrorLog, reportPhyEvent, deviceListed, phyListed, broadcasts, broadcastBytes, reportBroadcast, respond}
+use Rattle.model.specs.Reply.{reportGeneral, reportManufacturer, reportPhyErrorLog, reportPhyEvent}
+use Rattle.model.specs.Reply.{deviceListed, phyListed, broadcasts, broadcastBytes, reportBroadcast, respond}
 use Rattle.model.specs.Reports.{amountTooLarge, eventTaken, event, linkChange, reducedFunctionality, sesNotice}
 use Rattle.model.specs.Request.{isRequest, known, lengthRight, asked, judge, allowed, firstUnsupported}
 use Rattle.model.specs.Results.{countRight, knownOperation, decide}
@@ -12,7 +14,8 @@ use Rattle.model.specs.Shelf.{freshShelf, noShelf, startTaken, start}
 use Rattle.model.specs.ShelfW.{shelfW}
 use Rattle.model.specs.Sources.{counting, peak, supported}
 use Rattle.model.specs.Tests.{allBelow, sumBelow, joinBelow}
-use Rattle.model.specs.Writes.{controlled, controlChanges, setMonitor, setMonitors, clearMonitor, anyPeak, configured, effect}
+use Rattle.model.specs.Writes.{controlled, controlChanges, setMonitor, setMonitors, clearMonitor, anyPeak}
+use Rattle.model.specs.Writes.{configured, effect}
 use Rattle.model.specs.Zone.{rowReaches, symmetric, legalTable}
 
 -- `unfolding f` opens whatever f's own `unfolding` line names: each set below is a name for such a line, and its value is of no interest.

@@ -3,7 +3,8 @@
 -- H6 in `Request`, H7 to H9 in `Reports`. "The lowest number that applies is given": there they stand in rising order.
 use Prim.Native.Nat.{ℕ}
 use Rattle.model.specs.declared.House.{House}
-use Rattle.model.specs.declared.House.the-variants.{PhyNumber, PhyGroup, IllegalTable, SourceGroup, ShortBuffer, BadFrame, NoSuchPhy, EventSource, Amount}
+use Rattle.model.specs.declared.House.the-variants.{PhyNumber, PhyGroup, IllegalTable, SourceGroup, ShortBuffer}
+use Rattle.model.specs.declared.House.the-variants.{BadFrame, NoSuchPhy, EventSource, Amount}
 use Rattle.model.specs.declared.Taken.{Taken}
 use Rattle.model.specs.declared.Taken.the-variants.{Done, NotDone}
 

@@ -4,9 +4,15 @@ use mathlib.Core.Bool.{Bool}
 use mathlib.Core.List.{List, [], _∷_}
 use lib.Dec.{leb, eqb}
 use Rattle.model.specs.declared.FunctionResult.{FunctionResult}
-use Rattle.model.specs.declared.FunctionResult.the-variants.{Accepted, UnknownSmpFunction, SmpFunctionFailed, InvalidRequestFrameLength, InvalidExpanderChangeCount, PhyDoesNotExist, UnknownPhyOperation, PhyVacant, UnknownPhyEventSource, SmpZoneViolation}
+use Rattle.model.specs.declared.FunctionResult.the-variants.{Accepted, UnknownSmpFunction, SmpFunctionFailed}
+use Rattle.model.specs.declared.FunctionResult.the-variants.{InvalidRequestFrameLength}
+use Rattle.model.specs.declared.FunctionResult.the-variants.{InvalidExpanderChangeCount, PhyDoesNotExist}
+use Rattle.model.specs.declared.FunctionResult.the-variants.{UnknownPhyOperation, PhyVacant}
+use Rattle.model.specs.declared.FunctionResult.the-variants.{UnknownPhyEventSource, SmpZoneViolation}
 use Rattle.model.specs.declared.Request.{Request}
-use Rattle.model.specs.declared.Request.the-variants.{ReportGeneral, ReportManufacturer, ReportBroadcast, ReportPhyErrorLog, ReportPhyEvent, PhyControl, ConfigurePhyEvent}
+use Rattle.model.specs.declared.Request.the-variants.{ReportGeneral, ReportManufacturer, ReportBroadcast}
+use Rattle.model.specs.declared.Request.the-variants.{ReportPhyErrorLog, ReportPhyEvent, PhyControl}
+use Rattle.model.specs.declared.Request.the-variants.{ConfigurePhyEvent}
 use Rattle.model.specs.declared.Shelf.{Shelf}
 use Rattle.model.specs.Reach.{reaches}
 use Rattle.model.specs.Request.{firstUnsupported}

@@ -7,7 +7,9 @@ use lib.ListN.{replicate}
 use Rattle.model.specs.declared.Monitor.{Monitor}
 use Rattle.model.specs.declared.Phy.{Phy}
 use Rattle.model.specs.declared.Request.{Request}
-use Rattle.model.specs.declared.Request.the-variants.{ReportGeneral, ReportManufacturer, ReportBroadcast, ReportPhyErrorLog, ReportPhyEvent, PhyControl, ConfigurePhyEvent}
+use Rattle.model.specs.declared.Request.the-variants.{ReportGeneral, ReportManufacturer, ReportBroadcast}
+use Rattle.model.specs.declared.Request.the-variants.{ReportPhyErrorLog, ReportPhyEvent, PhyControl}
+use Rattle.model.specs.declared.Request.the-variants.{ConfigurePhyEvent}
 use Rattle.model.specs.declared.Shelf.{Shelf}
 use Rattle.model.specs.Counting.{originate, withValue, phyWith, changeOn}
 use Rattle.model.specs.Request.{descriptorSource, descriptorThreshold}

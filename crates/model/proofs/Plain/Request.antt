@@ -10,7 +10,8 @@ use mathlib.Core.List.{List, [], _∷_, List·Memᴰ}
 use lib.Dec.{T, leb, eqb}
 use lib.ListN.{length}
 use Rattle.model.specs.Bytes.{byte}
-use Rattle.model.specs.Request.{isRequest, functionOf, known, shaped, lengthRight, descriptorSource, allowed, firstUnsupported}
+use Rattle.model.specs.Request.{isRequest, functionOf, known, shaped, lengthRight, descriptorSource, allowed}
+use Rattle.model.specs.Request.{firstUnsupported}
 use Rattle.model.specs.Sources.{supported}
 use Rattle.model.specs.Tests.{oneOf}
 use Rattle.model.proofs.Laws.Tests.{both-iff, all-three-iff, either-iff, leb-iff, eqb-iff, oneOf-iff}
