@@ -2,7 +2,7 @@
 -- what must come. "Freshly started for each case; where no source is named it is 1." `proofs/Cases` has the theorem that all hold.
 use Prim.Native.Nat.{ℕ}
 use mathlib.Core.List.{List, [], _∷_, _++_}
-use lib.ListN.{set, length, replicate}
+use lib.ListN.{set}
 use Rattle.model.specs.declared.Monitor.{Monitor}
 use Rattle.model.specs.declared.Phy.{Phy}
 use Rattle.model.specs.declared.Reach.{Reach}
@@ -10,6 +10,7 @@ use Rattle.model.specs.declared.Reach.the-variants.{Reaches, NoReach}
 use Rattle.model.specs.declared.Shelf.{Shelf}
 use Rattle.model.specs.Bytes.{zeros}
 use Rattle.model.specs.Counting.{phyWith}
+use Rattle.model.specs.Hex.{hex}
 use Rattle.model.specs.House.{houseNumber}
 use Rattle.model.specs.Reach.{reachQuery}
 use Rattle.model.specs.Reply.{errorAt, monitorAt}
@@ -98,16 +99,6 @@ nearEnd x =
 abbrev pub nearEndW : Shelf
 nearEndW = put shelfW 0 (nearEnd (phyAt shelfW 0)) (shelfW .changes)
 
--- 2. and 3. ask for phy 2's monitors: `40 14 00 02 00 00 00 00 00 02 00 00`, and the same with byte 3 as 00h
-abbrev pub askMonitors : ℕ → List ℕ
-askMonitors byte3 =
-    0x40 ∷ 0x14 ∷ 0x00 ∷ byte3 ∷ 0x00 ∷ 0x00 ∷ 0x00 ∷ 0x00 ∷ 0x00 ∷ 0x02 ∷ 0x00 ∷ 0x00 ∷ []
-
--- 7. clears peaks on phy 0: `40 93 00 02 00 02 01 00 00 00 00 00`, and the same with byte 5 as 01h
-abbrev pub clearPeaks : ℕ → List ℕ
-clearPeaks byte5 =
-    0x40 ∷ 0x93 ∷ 0x00 ∷ 0x02 ∷ 0x00 ∷ byte5 ∷ 0x01 ∷ 0x00 ∷ 0x00 ∷ 0x00 ∷ 0x00 ∷ 0x00 ∷ []
-
 unfoldable pub cases : List Case
 cases =
     -- 1. Reach of 8: 0000000Bh, 3. Of 9: 0000000Ch, 2. Of 0: 00000008h, 1. Of 32: H4.
@@ -115,41 +106,35 @@ cases =
     ∷ fresh 1 (ReachOf 9) (Set 0x0000000C 2)
     ∷ fresh 1 (ReachOf 0) (Set 0x00000008 1)
     ∷ fresh 1 (ReachOf 32) (H 4)
-    -- 2. From 8: `41 14 16 00`. From 9: accepted, 64 bytes.
-    ∷ fresh 2 (Send 8 (askMonitors 0x02)) (Bytes (0x41 ∷ 0x14 ∷ 0x16 ∷ 0x00 ∷ []))
+    -- 2. `40 14 00 02 00 00 00 00 00 02 00 00` from 8: `41 14 16 00`. From 9: accepted, 64 bytes.
+    ∷ fresh 2 (Send 8 (hex "40 14 00 02 00 00 00 00 00 02 00 00")) (Bytes (hex "41 14 16 00"))
     ∷ fresh 2
-    (Send 9 (askMonitors 0x02))
-    (Bytes
-    ((0x41 ∷ 0x14 ∷ 0x00 ∷ 0x0F ∷ 0x00 ∷ 0x01 ∷ 0x00 ∷ 0x00 ∷ 0x00 ∷ 0x02 ∷ 0x00 ∷ 0x00 ∷ 0x00 ∷ 0x00 ∷ 0x00 ∷ 0x04 ∷ [])
-    ++ zeros 48))
+    (Send 9 (hex "40 14 00 02 00 00 00 00 00 02 00 00"))
+    (Bytes (hex "41 14 00 0F 00 01 00 00 00 02 00 00 00 00 00 04" ++ zeros 48))
     -- 3. The same with byte 3 as 00h, from 9: `41 14 03 00`.
-    ∷ fresh 3 (Send 9 (askMonitors 0x00)) (Bytes (0x41 ∷ 0x14 ∷ 0x03 ∷ 0x00 ∷ []))
+    ∷ fresh 3 (Send 9 (hex "40 14 00 00 00 00 00 00 00 02 00 00")) (Bytes (hex "41 14 03 00"))
     -- 4. `40 11 00 00`, then eight zeros, from 8: accepted, 28 bytes.
-    ∷ fresh 4
-    (Send 8 (0x40 ∷ 0x11 ∷ 0x00 ∷ 0x00 ∷ zeros 8))
-    (Bytes (0x41 ∷ 0x11 ∷ 0x00 ∷ 0x06 ∷ 0x00 ∷ 0x01 ∷ zeros 22))
+    ∷ fresh 4 (Send 8 (hex "40 11 00 00" ++ zeros 8)) (Bytes (hex "41 11 00 06 00 01" ++ zeros 22))
     -- 5. `40 11 00 02 00 00 00 00 00 04 00 00`: `41 11 10 00`.
-    ∷ fresh 5
-    (Send 1 (0x40 ∷ 0x11 ∷ 0x00 ∷ 0x02 ∷ 0x00 ∷ 0x00 ∷ 0x00 ∷ 0x00 ∷ 0x00 ∷ 0x04 ∷ 0x00 ∷ 0x00 ∷ []))
-    (Bytes (0x41 ∷ 0x11 ∷ 0x10 ∷ 0x00 ∷ []))
+    ∷ fresh 5 (Send 1 (hex "40 11 00 02 00 00 00 00 00 04 00 00")) (Bytes (hex "41 11 10 00"))
     -- 6. `40 02 00 00`: `41 02 01 00`. `40 02 00`: H6.
-    ∷ fresh 6 (Send 1 (0x40 ∷ 0x02 ∷ 0x00 ∷ 0x00 ∷ [])) (Bytes (0x41 ∷ 0x02 ∷ 0x01 ∷ 0x00 ∷ []))
-    ∷ fresh 6 (Send 1 (0x40 ∷ 0x02 ∷ 0x00 ∷ [])) (H 6)
-    -- 7. From 8: `41 93 04 00`. With byte 5 as 01h: `41 93 00 00`, and no broadcast, since nothing watches a peak.
-    ∷ fresh 7 (Send 8 (clearPeaks 0x02)) (Bytes (0x41 ∷ 0x93 ∷ 0x04 ∷ 0x00 ∷ []))
-    ∷ fresh 7 (Send 8 (clearPeaks 0x01)) (Bytes (0x41 ∷ 0x93 ∷ 0x00 ∷ 0x00 ∷ []))
-    ∷ on 7 shelfW (sent 8 (clearPeaks 0x01) ∷ []) (Look broadcastCounts) (Numbers (zeros 14))
+    ∷ fresh 6 (Send 1 (hex "40 02 00 00")) (Bytes (hex "41 02 01 00"))
+    ∷ fresh 6 (Send 1 (hex "40 02 00")) (H 6)
+    -- 7. `40 93 00 02 00 02 01 00 00 00 00 00` from 8: `41 93 04 00`. With byte 5 as 01h: `41 93 00 00`, and no
+    -- broadcast, since nothing watches a peak.
+    ∷ fresh 7 (Send 8 (hex "40 93 00 02 00 02 01 00 00 00 00 00")) (Bytes (hex "41 93 04 00"))
+    ∷ fresh 7 (Send 8 (hex "40 93 00 02 00 01 01 00 00 00 00 00")) (Bytes (hex "41 93 00 00"))
+    ∷ on 7 shelfW
+    (sent 8 (hex "40 93 00 02 00 01 01 00 00 00 00 00") ∷ [])
+    (Look broadcastCounts)
+    (Numbers (zeros 14))
     -- 8. `40 93 00 02 00 00 01 00 00 02 00 00` from 8: `41 93 20 00`.
-    ∷ fresh 8
-    (Send 8 (0x40 ∷ 0x93 ∷ 0x00 ∷ 0x02 ∷ 0x00 ∷ 0x00 ∷ 0x01 ∷ 0x00 ∷ 0x00 ∷ 0x02 ∷ 0x00 ∷ 0x00 ∷ []))
-    (Bytes (0x41 ∷ 0x93 ∷ 0x20 ∷ 0x00 ∷ []))
+    ∷ fresh 8 (Send 8 (hex "40 93 00 02 00 00 01 00 00 02 00 00")) (Bytes (hex "41 93 20 00"))
     -- 9. After one reduced functionality notice, `40 06 04 00`: `41 06 00 03 00 01 04 01 FF 00 03 00 00 01 00 00`.
     ∷ on 9 shelfW
     (ReducedFunctionality ∷ [])
-    (Send 1 (0x40 ∷ 0x06 ∷ 0x04 ∷ 0x00 ∷ []))
-    (Bytes
-    (0x41
-    ∷ 0x06 ∷ 0x00 ∷ 0x03 ∷ 0x00 ∷ 0x01 ∷ 0x04 ∷ 0x01 ∷ 0xFF ∷ 0x00 ∷ 0x03 ∷ 0x00 ∷ 0x00 ∷ 0x01 ∷ 0x00 ∷ 0x00 ∷ []))
+    (Send 1 (hex "40 06 04 00"))
+    (Bytes (hex "41 06 00 03 00 01 04 01 FF 00 03 00 00 01 00 00"))
     -- 10. Change count FFFFh, then a link change: 0001h.
     ∷ on 10 lastCount (LinkChange 0 ∷ []) (Look (λ s. s .changes ∷ [])) (Numbers (0x0001 ∷ []))
     -- 11. Value FFFFFFFEh on 01h, amount 3: value 00000001h; an error count at FFFFFFFEh: FFFFFFFFh.

@@ -18,6 +18,7 @@ pub mod Reply
 pub mod Writes
 pub mod Server
 -- "Shelf W, for checking"
+pub mod Hex
 pub mod Runs
 pub mod ShelfW
 pub mod Cases

@@ -9,6 +9,7 @@ use Rattle.model.specs.declared.Shelf.{Shelf}
 use Rattle.model.specs.Bytes.{zeros, text}
 use Rattle.model.specs.Cases.{Case, Send, Lend, Look, H, Bytes, Numbers, fresh, on, sent}
 use Rattle.model.specs.Counting.{phyWith}
+use Rattle.model.specs.Hex.{hex}
 use Rattle.model.specs.House.{takenNumber}
 use Rattle.model.specs.Reply.{errorAt, monitorAt}
 use Rattle.model.specs.Reports.{event, linkChange, withDevice}
@@ -40,14 +41,6 @@ configure byte3 expected byte6 p d descriptors =
 -- a descriptor of a 93h: source, and the last byte of the threshold
 abbrev pub watch : ℕ → ℕ → List ℕ
 watch source threshold = 0x00 ∷ 0x00 ∷ 0x00 ∷ source ∷ 0x00 ∷ 0x00 ∷ 0x00 ∷ threshold ∷ []
-
--- a response of four bytes: function, result
-abbrev pub short : ℕ → ℕ → List ℕ
-short function result = 0x41 ∷ function ∷ result ∷ 0x00 ∷ []
-
--- a descriptor of a 06h response: phy, reason, and the two bytes of the count
-abbrev pub entry : ℕ → ℕ → ℕ → ℕ → List ℕ
-entry p reason high low = p ∷ 0x00 ∷ reason ∷ 0x00 ∷ high ∷ low ∷ 0x00 ∷ 0x00 ∷ []
 
 -- ---- What is looked at, always of phy 0
 
@@ -122,14 +115,14 @@ easilyWrong =
     ∷ on 2 fullW
     (ReducedFunctionality ∷ [])
     (Send 9 (readBroadcasts 0x04))
-    (Bytes ((0x41 ∷ 0x06 ∷ 0x00 ∷ 0x03 ∷ 0x00 ∷ 0x01 ∷ 0x04 ∷ 0x01 ∷ []) ++ entry 0xFF 0x03 0x00 0x01))
+    (Bytes (hex "41 06 00 03 00 01 04 01" ++ hex "FF 00 03 00 00 01 00 00"))
     -- 3. an event source that no phy has, from a stranger and from one who reaches the phy
-    ∷ fresh 3 (Send 8 (configure 0x04 0x00 0x00 2 1 (watch 0x07 0))) (Bytes (short 0x93 0x20))
-    ∷ fresh 3 (Send 9 (configure 0x04 0x00 0x00 2 1 (watch 0x07 0))) (Bytes (short 0x93 0x17))
+    ∷ fresh 3 (Send 8 (configure 0x04 0x00 0x00 2 1 (watch 0x07 0))) (Bytes (hex "41 93 20 00"))
+    ∷ fresh 3 (Send 9 (configure 0x04 0x00 0x00 2 1 (watch 0x07 0))) (Bytes (hex "41 93 17 00"))
     -- 4. two good descriptors, then a bad one: 17h, and all four monitors as they were
     ∷ fresh 4
     (Send 8 (configure 0x08 0x00 0x01 0 3 (watch 0x2E 1 ++ watch 0x01 1 ++ watch 0x2F 1)))
-    (Bytes (short 0x93 0x17))
+    (Bytes (hex "41 93 17 00"))
     ∷ on 4 shelfW
     (watching
     ∷ Event 0 0x2D 7
@@ -141,36 +134,36 @@ easilyWrong =
     ∷ on 5 countsW []
     (Send 8 (readBroadcasts 0x00))
     (Bytes
-    ((0x41 ∷ 0x06 ∷ 0x00 ∷ 0x07 ∷ 0x00 ∷ 0x01 ∷ 0x00 ∷ 0x03 ∷ [])
-    ++ entry 0x00 0x00 0x01 0x00
-    ++ entry 0x01 0x00 0x01 0x01
-    ++ entry 0x03 0x00 0x01 0x03))
+    (hex "41 06 00 07 00 01 00 03"
+    ++ hex "00 00 00 00 01 00 00 00"
+    ++ hex "01 00 00 00 01 01 00 00"
+    ++ hex "03 00 00 00 01 03 00 00"))
     ∷ on 5 countsW []
     (Send 9 (readBroadcasts 0x00))
     (Bytes
-    ((0x41 ∷ 0x06 ∷ 0x00 ∷ 0x05 ∷ 0x00 ∷ 0x01 ∷ 0x00 ∷ 0x02 ∷ [])
-    ++ entry 0x02 0x00 0x01 0x02
-    ++ entry 0x03 0x00 0x01 0x03))
+    (hex "41 06 00 05 00 01 00 02"
+    ++ hex "02 00 00 00 01 02 00 00"
+    ++ hex "03 00 00 00 01 03 00 00"))
     ∷ on 5 countsW []
     (Send 8 (readBroadcasts 0x04))
     (Bytes
-    ((0x41 ∷ 0x06 ∷ 0x00 ∷ 0x0F ∷ 0x00 ∷ 0x01 ∷ 0x04 ∷ 0x07 ∷ [])
-    ++ entry 0xFF 0x03 0x04 0x00
-    ++ entry 0x00 0x01 0x02 0x00
-    ++ entry 0x00 0x02 0x03 0x00
-    ++ entry 0x01 0x01 0x02 0x01
-    ++ entry 0x01 0x02 0x03 0x01
-    ++ entry 0x03 0x01 0x02 0x03
-    ++ entry 0x03 0x02 0x03 0x03))
+    (hex "41 06 00 0F 00 01 04 07"
+    ++ hex "FF 00 03 00 04 00 00 00"
+    ++ hex "00 00 01 00 02 00 00 00"
+    ++ hex "00 00 02 00 03 00 00 00"
+    ++ hex "01 00 01 00 02 01 00 00"
+    ++ hex "01 00 02 00 03 01 00 00"
+    ++ hex "03 00 01 00 02 03 00 00"
+    ++ hex "03 00 02 00 03 03 00 00"))
     ∷ on 5 countsW []
     (Send 9 (readBroadcasts 0x04))
     (Bytes
-    ((0x41 ∷ 0x06 ∷ 0x00 ∷ 0x0B ∷ 0x00 ∷ 0x01 ∷ 0x04 ∷ 0x05 ∷ [])
-    ++ entry 0xFF 0x03 0x04 0x00
-    ++ entry 0x02 0x01 0x02 0x02
-    ++ entry 0x02 0x02 0x03 0x02
-    ++ entry 0x03 0x01 0x02 0x03
-    ++ entry 0x03 0x02 0x03 0x03))
+    (hex "41 06 00 0B 00 01 04 05"
+    ++ hex "FF 00 03 00 04 00 00 00"
+    ++ hex "02 00 01 00 02 02 00 00"
+    ++ hex "02 00 02 00 03 02 00 00"
+    ++ hex "03 00 01 00 02 03 00 00"
+    ++ hex "03 00 02 00 03 03 00 00"))
     ∷ []
 
 -- ---- House refusals
@@ -199,7 +192,7 @@ refusals =
     ∷ fresh 4 (Lend 0 264 (readBroadcasts 0x00)) (H 4)
     ∷ fresh 5 (Lend 1027 31 []) (H 5)
     ∷ fresh 5 (Lend 1027 1 (readBroadcasts 0x00)) (H 5)
-    ∷ fresh 6 (Lend 1028 1 (0x41 ∷ 0x06 ∷ 0x00 ∷ 0x00 ∷ [])) (H 6)
+    ∷ fresh 6 (Lend 1028 1 (hex "41 06 00 00")) (H 6)
     ∷ fresh 6 (Lend 1028 1 []) (H 6)
     -- events: H7 first, whole numbers; H8; H9 at its two limits; link changes: H7, FFh no phy
     ∷ fresh 7
@@ -223,7 +216,7 @@ refusals =
     ∷ fresh 6 (Look (λ s. lentAfter s 1 [] (replicate 1028 0xEE))) (Numbers (replicate 1028 0xEE))
     ∷ fresh 0
     (Look (λ s. lentAfter s 1 (readBroadcasts 0x00) (replicate 1028 0xEE)))
-    (Numbers ((0x41 ∷ 0x06 ∷ 0x00 ∷ 0x01 ∷ 0x00 ∷ 0x01 ∷ 0x00 ∷ 0x00 ∷ []) ++ replicate 1020 0xEE))
+    (Numbers (hex "41 06 00 01 00 01 00 00" ++ replicate 1020 0xEE))
     ∷ []
 
 -- ---- Function results, in their order
@@ -231,28 +224,31 @@ refusals =
 unfoldable pub results : List Case
 results =
     -- 01h at any length
-    fresh 0x01 (Send 1 (0x40 ∷ 0x02 ∷ 0x00 ∷ 0x07 ∷ 0x00 ∷ [])) (Bytes (short 0x02 0x01))
+    fresh 0x01 (Send 1 (hex "40 02 00 07 00")) (Bytes (hex "41 02 01 00"))
     -- 03h: true length, byte 3, and for 93h both with d; before a wrong count
-    ∷ fresh 0x03 (Send 1 (0x40 ∷ 0x11 ∷ 0x00 ∷ 0x00 ∷ [])) (Bytes (short 0x11 0x03))
-    ∷ fresh 0x03 (Send 1 (readPhy 0x11 0x01 0)) (Bytes (short 0x11 0x03))
-    ∷ fresh 0x03 (Send 1 (control 0x08 0x07 0 0x00)) (Bytes (short 0x91 0x03))
-    ∷ fresh 0x03 (Send 1 (configure 0x02 0x07 0x00 0 1 (watch 0x01 0))) (Bytes (short 0x93 0x03))
-    ∷ fresh 0x03 (Send 1 (configure 0x04 0x07 0x00 0 1 (zeros 7))) (Bytes (short 0x93 0x03))
-    ∷ fresh 0x03 (Send 1 (0x40 ∷ 0x93 ∷ 0x00 ∷ 0x02 ∷ zeros 7)) (Bytes (short 0x93 0x03))
+    ∷ fresh 0x03 (Send 1 (hex "40 11 00 00")) (Bytes (hex "41 11 03 00"))
+    ∷ fresh 0x03 (Send 1 (readPhy 0x11 0x01 0)) (Bytes (hex "41 11 03 00"))
+    ∷ fresh 0x03 (Send 1 (control 0x08 0x07 0 0x00)) (Bytes (hex "41 91 03 00"))
+    ∷ fresh 0x03 (Send 1 (configure 0x02 0x07 0x00 0 1 (watch 0x01 0))) (Bytes (hex "41 93 03 00"))
+    ∷ fresh 0x03 (Send 1 (configure 0x04 0x07 0x00 0 1 (zeros 7))) (Bytes (hex "41 93 03 00"))
+    ∷ fresh 0x03 (Send 1 (hex "40 93 00 02" ++ zeros 7)) (Bytes (hex "41 93 03 00"))
+    -- 126 descriptors have a right length, which 127 can't have: 2 + 2d is no byte, and 00h is not taken for it
+    ∷ fresh 0x03 (Send 1 (configure 0x00 0x00 0x00 0 127 (zeros 1016))) (Bytes (hex "41 93 03 00"))
+    ∷ fresh 0x02 (Send 1 (configure 0xFE 0x00 0x00 0 126 (zeros 1008))) (Bytes (hex "41 93 02 00"))
     -- 04h before 10h; 10h of FFh
-    ∷ fresh 0x04 (Send 1 (control 0x09 0x02 4 0x00)) (Bytes (short 0x91 0x04))
-    ∷ fresh 0x04 (Send 1 (configure 0x02 0x02 0x00 4 0 [])) (Bytes (short 0x93 0x04))
-    ∷ fresh 0x10 (Send 1 (readPhy 0x14 0x02 0xFF)) (Bytes (short 0x14 0x10))
+    ∷ fresh 0x04 (Send 1 (control 0x09 0x02 4 0x00)) (Bytes (hex "41 91 04 00"))
+    ∷ fresh 0x04 (Send 1 (configure 0x02 0x02 0x00 4 0 [])) (Bytes (hex "41 93 04 00"))
+    ∷ fresh 0x10 (Send 1 (readPhy 0x14 0x02 0xFF)) (Bytes (hex "41 14 10 00"))
     -- 10h before 20h, 20h before 13h and 02h
-    ∷ fresh 0x10 (Send 2 (control 0x09 0x01 4 0x07)) (Bytes (short 0x91 0x10))
-    ∷ fresh 0x20 (Send 8 (control 0x09 0x01 2 0x07)) (Bytes (short 0x91 0x20))
-    ∷ fresh 0x20 (Send 8 (configure 0x0C 0x01 0x00 2 5 (zeros 40))) (Bytes (short 0x93 0x20))
-    ∷ fresh 0x16 (Send 9 (readPhy 0x11 0x00 0)) (Bytes (short 0x11 0x16))
+    ∷ fresh 0x10 (Send 2 (control 0x09 0x01 4 0x07)) (Bytes (hex "41 91 10 00"))
+    ∷ fresh 0x20 (Send 8 (control 0x09 0x01 2 0x07)) (Bytes (hex "41 91 20 00"))
+    ∷ fresh 0x20 (Send 8 (configure 0x0C 0x01 0x00 2 5 (zeros 40))) (Bytes (hex "41 93 20 00"))
+    ∷ fresh 0x16 (Send 9 (readPhy 0x11 0x00 0)) (Bytes (hex "41 11 16 00"))
     -- 13h; 02h of a type above 0Fh, and of five descriptors before the first of them is judged; 17h
-    ∷ fresh 0x13 (Send 8 (control 0x00 0x01 0 0x02)) (Bytes (short 0x91 0x13))
-    ∷ fresh 0x02 (Send 1 (readBroadcasts 0x10)) (Bytes (short 0x06 0x02))
-    ∷ fresh 0x02 (Send 8 (configure 0x0C 0x01 0x00 0 5 (watch 0x07 0 ++ zeros 32))) (Bytes (short 0x93 0x02))
-    ∷ fresh 0x17 (Send 8 (configure 0x04 0x01 0x00 0 1 (watch 0x46 0))) (Bytes (short 0x93 0x17))
+    ∷ fresh 0x13 (Send 8 (control 0x00 0x01 0 0x02)) (Bytes (hex "41 91 13 00"))
+    ∷ fresh 0x02 (Send 1 (readBroadcasts 0x10)) (Bytes (hex "41 06 02 00"))
+    ∷ fresh 0x02 (Send 8 (configure 0x0C 0x01 0x00 0 5 (watch 0x07 0 ++ zeros 32))) (Bytes (hex "41 93 02 00"))
+    ∷ fresh 0x17 (Send 8 (configure 0x04 0x01 0x00 0 1 (watch 0x46 0))) (Bytes (hex "41 93 17 00"))
     ∷ []
 
 -- ---- Frames
@@ -260,43 +256,43 @@ results =
 unfoldable pub frames : List Case
 frames =
     fresh 0x00
-    (Send 0 (0x40 ∷ 0x00 ∷ 0x00 ∷ 0x00 ∷ []))
+    (Send 0 (hex "40 00 00 00"))
     (Bytes
-    ((0x41 ∷ 0x00 ∷ 0x00 ∷ 0x08 ∷ 0x00 ∷ 0x01 ∷ 0x00 ∷ 0x00 ∷ 0x00 ∷ 0x04 ∷ 0x00 ∷ 0x00 ∷ [])
-    ++ (0x01 ∷ 0x02 ∷ 0x03 ∷ 0x04 ∷ 0x05 ∷ 0x06 ∷ 0x07 ∷ 0x08 ∷ [])
+    (hex "41 00 00 08 00 01 00 00 00 04 00 00"
+    ++ hex "01 02 03 04 05 06 07 08"
     ++ zeros 16))
     ∷ on 0x01 shelfW
     (LinkChange 0 ∷ [])
-    (Send 0 (0x40 ∷ 0x01 ∷ 0x00 ∷ 0x00 ∷ []))
+    (Send 0 (hex "40 01 00 00"))
     (Bytes
-    ((0x41 ∷ 0x01 ∷ 0x00 ∷ 0x0E ∷ 0x00 ∷ 0x02 ∷ 0x00 ∷ 0x00 ∷ 0x00 ∷ 0x00 ∷ 0x00 ∷ 0x00 ∷ [])
-    ++ (0x52 ∷ 0x41 ∷ 0x49 ∷ 0x4C ∷ 0x59 ∷ 0x41 ∷ 0x52 ∷ 0x44 ∷ [])
-    ++ (0x50 ∷ 0x4F ∷ 0x52 ∷ 0x54 ∷ 0x41 ∷ 0x4C ∷ 0x20 ∷ 0x53 ∷ 0x48 ∷ 0x45 ∷ 0x4C ∷ 0x46 ∷ 0x20 ∷ 0x20 ∷ 0x20 ∷ 0x20 ∷ [])
-    ++ (0x30 ∷ 0x30 ∷ 0x30 ∷ 0x31 ∷ [])
+    (hex "41 01 00 0E 00 02 00 00 00 00 00 00"
+    ++ hex "52 41 49 4C 59 41 52 44"
+    ++ hex "50 4F 52 54 41 4C 20 53 48 45 4C 46 20 20 20 20"
+    ++ hex "30 30 30 31"
     ++ zeros 20))
     -- 06h: SES under FFh; types that list nothing
     ∷ on 0x06 countsW []
     (Send 0 (readBroadcasts 0x03))
-    (Bytes ((0x41 ∷ 0x06 ∷ 0x00 ∷ 0x03 ∷ 0x00 ∷ 0x01 ∷ 0x03 ∷ 0x01 ∷ []) ++ entry 0xFF 0x00 0x05 0x00))
+    (Bytes (hex "41 06 00 03 00 01 03 01" ++ hex "FF 00 00 00 05 00 00 00"))
     ∷ on 0x06 countsW []
     (Send 1 (readBroadcasts 0x0F))
-    (Bytes (0x41 ∷ 0x06 ∷ 0x00 ∷ 0x01 ∷ 0x00 ∷ 0x01 ∷ 0x0F ∷ 0x00 ∷ []))
+    (Bytes (hex "41 06 00 01 00 01 0F 00"))
     -- 11h: the four error counts, big-endian
     ∷ on 0x11 shelfW
     (Event 3 0x01 0x01020304 ∷ Event 3 0x02 0x05 ∷ Event 3 0x03 0x06 ∷ Event 3 0x04 0x07 ∷ [])
     (Send 9 (readPhy 0x11 0x02 3))
     (Bytes
-    ((0x41 ∷ 0x11 ∷ 0x00 ∷ 0x06 ∷ 0x00 ∷ 0x01 ∷ 0x00 ∷ 0x00 ∷ 0x00 ∷ 0x03 ∷ 0x00 ∷ 0x00 ∷ [])
-    ++ (0x01 ∷ 0x02 ∷ 0x03 ∷ 0x04 ∷ 0x00 ∷ 0x00 ∷ 0x00 ∷ 0x05 ∷ 0x00 ∷ 0x00 ∷ 0x00 ∷ 0x06 ∷ 0x00 ∷ 0x00 ∷ 0x00 ∷ 0x07 ∷ [])))
+    (hex "41 11 00 06 00 01 00 00 00 03 00 00"
+    ++ hex "01 02 03 04 00 00 00 05 00 00 00 06 00 00 00 07"))
     -- 14h: the four monitors, each in its place
     ∷ on 0x14 shelfW
     (watching ∷ Event 0 0x2D 0x0A0B ∷ Event 0 0x02 0x0C ∷ [])
     (Send 8 (readPhy 0x14 0x02 0))
     (Bytes
-    ((0x41 ∷ 0x14 ∷ 0x00 ∷ 0x0F ∷ 0x00 ∷ 0x01 ∷ 0x00 ∷ 0x00 ∷ 0x00 ∷ 0x00 ∷ 0x00 ∷ 0x00 ∷ 0x00 ∷ 0x00 ∷ 0x00 ∷ 0x04 ∷ [])
-    ++ (0x00 ∷ 0x00 ∷ 0x00 ∷ 0x2D ∷ 0x00 ∷ 0x00 ∷ 0x0A ∷ 0x0B ∷ 0x00 ∷ 0x00 ∷ 0x00 ∷ 0x0A ∷ [])
-    ++ (0x00 ∷ 0x00 ∷ 0x00 ∷ 0x2D ∷ 0x00 ∷ 0x00 ∷ 0x0A ∷ 0x0B ∷ 0x00 ∷ 0x00 ∷ 0x00 ∷ 0x0B ∷ [])
-    ++ (0x00 ∷ 0x00 ∷ 0x00 ∷ 0x02 ∷ 0x00 ∷ 0x00 ∷ 0x00 ∷ 0x0C ∷ 0x00 ∷ 0x00 ∷ 0x00 ∷ 0x05 ∷ [])
+    (hex "41 14 00 0F 00 01 00 00 00 00 00 00 00 00 00 04"
+    ++ hex "00 00 00 2D 00 00 0A 0B 00 00 00 0A"
+    ++ hex "00 00 00 2D 00 00 0A 0B 00 00 00 0B"
+    ++ hex "00 00 00 02 00 00 00 0C 00 00 00 05"
     ++ zeros 12))
     -- 91h: disable, disable again, link reset, link reset again; length 00h serves too
     ∷ on 0x91 shelfW (sent 8 (control 0x09 0x01 0 0x03) ∷ []) (Look link0) (Numbers (0 ∷ 1 ∷ 0x0002 ∷ []))
