@@ -6,7 +6,7 @@ use Rattle.model.specs.Reach.{reachSet, reachNumber, reachQuery}
 use Rattle.model.specs.Reply.{reportGeneral, reportManufacturer, reportPhyErrorLog, reportPhyEvent}
 use Rattle.model.specs.Reply.{deviceListed, phyListed, broadcasts, broadcastBytes, reportBroadcast, respond}
 use Rattle.model.specs.Reports.{amountTooLarge, eventTaken, event, linkChange, reducedFunctionality, sesNotice}
-use Rattle.model.specs.Request.{isRequest, known, lengthRight, asked, judge, allowed, firstUnsupported}
+use Rattle.model.specs.Request.{badFrame, known, lengthRight, asked, judge, allowed, firstUnsupported}
 use Rattle.model.specs.Results.{countRight, knownOperation, decide}
 use Rattle.model.specs.Runs.{told, next, after}
 use Rattle.model.specs.Server.{handle, served, lentAfter}
@@ -32,7 +32,7 @@ unfolding freshShelf noShelf startTaken start amountTooLarge eventTaken event li
 shelves = 0
 
 unfoldable pub requests : ℕ
-unfolding isRequest known lengthRight asked judge allowed firstUnsupported countRight knownOperation decide
+unfolding badFrame known lengthRight asked judge allowed firstUnsupported countRight knownOperation decide
 requests = 0
 
 unfoldable pub replies : ℕ

@@ -9,14 +9,13 @@ use Rattle.model.specs.declared.Reach.{Reach}
 use Rattle.model.specs.declared.Reach.the-variants.{Reaches, NoReach}
 use Rattle.model.specs.declared.Shelf.{Shelf}
 use Rattle.model.specs.Bytes.{zeros}
-use Rattle.model.specs.Counting.{phyWith}
 use Rattle.model.specs.Hex.{hex}
 use Rattle.model.specs.House.{houseNumber}
 use Rattle.model.specs.Reach.{reachQuery}
 use Rattle.model.specs.Reply.{errorAt, monitorAt}
 use Rattle.model.specs.Runs.{Operation, ReducedFunctionality, LinkChange, Event, Ask, after}
 use Rattle.model.specs.Server.{Reply, Refuses, Sends, handle}
-use Rattle.model.specs.Shelf.{phyAt, put}
+use Rattle.model.specs.Shelf.{monitor, phyWith, phyAt, put}
 use Rattle.model.specs.ShelfW.{shelfW}
 
 -- What is asked at the end of a case: a request from a source group, with a buffer of 1,028 bytes or of another length that is
@@ -91,7 +90,7 @@ abbrev pub nearEnd : Phy → Phy
 nearEnd x =
     phyWith x (x .enabled)
     (0xFFFFFFFE ∷ 0 ∷ 0 ∷ 0 ∷ [])
-    (set (x .monitors) 0 (record { source = 0x01; value = 0xFFFFFFFE; threshold = 0 }))
+    (set (x .monitors) 0 (monitor 0x01 0xFFFFFFFE 0))
     (x .change0)
     (x .expander1)
     (x .expander2)

@@ -6,6 +6,7 @@ use lib.Dec.{leb, ltb, eqb}
 use lib.ListN.{getD, set}
 use Rattle.model.specs.declared.Monitor.{Monitor}
 use Rattle.model.specs.declared.Phy.{Phy}
+use Rattle.model.specs.Shelf.{monitor, phyWith}
 use Rattle.model.specs.Sources.{peak}
 use Rattle.model.specs.Tests.{within}
 
@@ -22,7 +23,7 @@ unfoldable pub addSaturating : ℕ → ℕ → ℕ
 addSaturating count amount = min (count + amount) 0xFFFFFFFF
 
 abbrev pub withValue : Monitor → ℕ → Monitor
-withValue m v = record { source = m .source; value = v; threshold = m .threshold }
+withValue m value = monitor (m .source) value (m .threshold)
 
 -- "Each of the phy's monitors on that source changes: counting values wrap at 32 bits, peaks keep the larger."
 unfoldable pub counted : ℕ → ℕ → Monitor → Monitor
@@ -47,19 +48,6 @@ addError source amount errors =
     cond (within 0x01 0x04 source)
     (set errors (source - 1) (addSaturating (getD errors (source - 1) 0) amount))
     errors
-
--- A phy with other numbers, and the group that it had.
-abbrev pub phyWith : Phy → Bool → List ℕ → List Monitor → ℕ → ℕ → ℕ → Phy
-phyWith x enabled errors monitors change0 expander1 expander2 =
-    record {
-      group = x .group;
-      enabled = enabled;
-      errors = errors;
-      monitors = monitors;
-      change0 = change0;
-      expander1 = expander1;
-      expander2 = expander2;
-    }
 
 -- An event report, on the phy that it names.
 unfoldable pub eventOn : ℕ → ℕ → Phy → Phy

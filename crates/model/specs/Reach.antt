@@ -2,13 +2,14 @@
 -- the set of phys it reaches as a 32-bit number and how many they are; a group above 31 draws H4."
 use Prim.Native.Nat.{ℕ, _^_}
 use mathlib.Core.Bool.{Bool, cond}
+use lib.Dec.{ltb}
 use Rattle.model.specs.declared.House.the-variants.{SourceGroup}
 use Rattle.model.specs.declared.Reach.{Reach}
 use Rattle.model.specs.declared.Reach.the-variants.{Reaches, NoReach}
 use Rattle.model.specs.declared.Shelf.{Shelf}
 use Rattle.model.specs.Shelf.{phyNumber, phyAt}
-use Rattle.model.specs.Tests.{check, sumBelow}
-use Rattle.model.specs.Zone.{zoneGroup, row, rowReaches}
+use Rattle.model.specs.Tests.{given, sumBelow}
+use Rattle.model.specs.Zone.{row, rowReaches}
 
 abbrev pub reaches : Shelf → ℕ → ℕ → Bool
 reaches s g p = rowReaches (row (s .table) g) (phyAt s p .group)
@@ -22,4 +23,4 @@ unfoldable pub reachNumber : Shelf → ℕ → ℕ
 reachNumber s g = sumBelow (phyNumber s) (λ p. cond (reaches s g p) 1 0)
 
 unfoldable pub reachQuery : Shelf → ℕ → Reach
-reachQuery s g = check (zoneGroup g) (NoReach SourceGroup) (Reaches (reachSet s g) (reachNumber s g))
+reachQuery s g = given (ltb 31 g) (NoReach SourceGroup) (Reaches (reachSet s g) (reachNumber s g))

@@ -9,9 +9,9 @@ use Rattle.model.specs.declared.Shelf.{Shelf}
 use Rattle.model.specs.declared.Taken.{Taken}
 use Rattle.model.specs.declared.Taken.the-variants.{Done, NotDone}
 use Rattle.model.specs.Counting.{originate, eventOn, changeOn}
-use Rattle.model.specs.Shelf.{exists, phyAt, put, outcome}
+use Rattle.model.specs.Shelf.{exists, phyAt, put, putDevice, outcome}
 use Rattle.model.specs.Sources.{supported}
-use Rattle.model.specs.Tests.{check}
+use Rattle.model.specs.Tests.{given}
 
 -- "amount above FFh for 2Bh, or above FFFFh for 2Ch"
 unfoldable pub amountTooLarge : ℕ → ℕ → Bool
@@ -20,9 +20,9 @@ amountTooLarge source amount = eqb source 0x2B && ltb 0xFF amount || eqb source 
 -- H7 "phy does not exist", H8 "event source 00h or unsupported", H9
 unfoldable pub eventTaken : Shelf → ℕ → ℕ → ℕ → Taken
 eventTaken s p source amount =
-    check (exists s p) (NotDone NoSuchPhy)
-    (check (not (eqb source 0x00 || not (supported source))) (NotDone EventSource)
-    (check (not (amountTooLarge source amount)) (NotDone Amount)
+    given (not (exists s p)) (NotDone NoSuchPhy)
+    (given (eqb source 0x00 || not (supported source)) (NotDone EventSource)
+    (given (amountTooLarge source amount) (NotDone Amount)
     Done))
 
 unfoldable pub event : Shelf → ℕ → ℕ → ℕ → Outcome
@@ -32,26 +32,12 @@ event s p source amount =
 -- A link change originates Change, whether or not the phy is enabled, and moves the change count.
 unfoldable pub linkChange : Shelf → ℕ → Outcome
 linkChange s p =
-    outcome (check (exists s p) (NotDone NoSuchPhy) Done)
-    s
+    outcome (given (not (exists s p)) (NotDone NoSuchPhy) Done) s
     (put s p (changeOn (phyAt s p .enabled) (phyAt s p)) (originate (s .changes)))
-
--- The shelf with other counts under FFh.
-abbrev pub withDevice : Shelf → ℕ → ℕ → Shelf
-withDevice s expander3 ses0 =
-    record {
-      number = s .number;
-      phys = s .phys;
-      table = s .table;
-      identifier = s .identifier;
-      changes = s .changes;
-      expander3 = expander3;
-      ses0 = ses0;
-    }
 
 -- The two device notices; neither has a refusal.
 unfoldable pub reducedFunctionality : Shelf → Shelf
-reducedFunctionality s = withDevice s (originate (s .expander3)) (s .ses0)
+reducedFunctionality s = putDevice s (originate (s .expander3)) (s .ses0)
 
 unfoldable pub sesNotice : Shelf → Shelf
-sesNotice s = withDevice s (s .expander3) (originate (s .ses0))
+sesNotice s = putDevice s (s .expander3) (originate (s .ses0))

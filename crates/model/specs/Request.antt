@@ -1,9 +1,9 @@
 -- "Judging one request frame alone (function and H6, 01h, 03h or nothing wrong)." "Judging yields the read request or a refusal;
 -- the server takes its requests from there only."
 use Prim.Native.Nat.{ℕ, zero, suc, _+_, _*_}
-use mathlib.Core.Bool.{Bool, cond, _&&_, _||_}
+use mathlib.Core.Bool.{Bool, not, cond, _&&_, _||_}
 use mathlib.Core.List.{List, [], _∷_}
-use lib.Dec.{leb, eqb}
+use lib.Dec.{ltb, eqb}
 use lib.ListN.{length}
 use Rattle.model.specs.declared.FunctionResult.the-variants.{UnknownSmpFunction, InvalidRequestFrameLength}
 use Rattle.model.specs.declared.House.the-variants.{BadFrame}
@@ -15,12 +15,12 @@ use Rattle.model.specs.declared.Request.the-variants.{ReportPhyErrorLog,
 use Rattle.model.specs.declared.Request.the-variants.{ConfigurePhyEvent}
 use Rattle.model.specs.Bytes.{byte, word, dword}
 use Rattle.model.specs.Sources.{supported}
-use Rattle.model.specs.Tests.{check, oneOf}
+use Rattle.model.specs.Tests.{check, given, oneOf}
 use Rattle.model.specs.Zone.{bit}
 
--- not H6 "request under 4 bytes, or first byte not 40h"
-unfoldable pub isRequest : List ℕ → Bool
-isRequest frame = leb 4 (length frame) && eqb (byte frame 0) 0x40
+-- H6: "request under 4 bytes, or first byte not 40h"
+unfoldable pub badFrame : List ℕ → Bool
+badFrame frame = ltb (length frame) 4 || not (eqb (byte frame 0) 0x40)
 
 -- the function, which a request of four bytes or more has
 abbrev pub functionOf : List ℕ → ℕ
@@ -61,7 +61,7 @@ asked frame =
 
 unfoldable pub judge : List ℕ → Judged
 judge frame =
-    check (isRequest frame) (NoFrame BadFrame)
+    given (badFrame frame) (NoFrame BadFrame)
     (check (known (functionOf frame)) (Fails UnknownSmpFunction)
     (check (lengthRight frame) (Fails InvalidRequestFrameLength)
     (Asked (asked frame))))

@@ -2,7 +2,7 @@
 use Prim.Native.Nat.{ℕ}
 use mathlib.Core.Bool.{Bool, cond}
 use mathlib.Core.List.{List, _++_}
-use lib.Dec.{leb}
+use lib.Dec.{ltb}
 use lib.ListN.{length, drop}
 use Rattle.model.specs.declared.Answer.{Answer}
 use Rattle.model.specs.declared.Answer.the-variants.{Response, NoResponse}
@@ -17,9 +17,8 @@ use Rattle.model.specs.declared.Shelf.{Shelf}
 use Rattle.model.specs.Reply.{failed, respond}
 use Rattle.model.specs.Request.{functionOf, judge}
 use Rattle.model.specs.Results.{resultCode, accepted, decide}
-use Rattle.model.specs.Tests.{check}
+use Rattle.model.specs.Tests.{given}
 use Rattle.model.specs.Writes.{effect}
-use Rattle.model.specs.Zone.{zoneGroup}
 
 -- A reply is a house refusal, and then no frame is written, or the bytes of a response.
 pub data Reply : Type 0 where
@@ -52,8 +51,8 @@ handleJudged s g frame (Asked request) = conclude s g frame request (decide s g 
 -- H4 "source group above 31", H5 "response buffer shorter than 1,028 bytes", then H6 and the function results
 unfoldable pub handle : Shelf → ℕ → List ℕ → ℕ → Handled
 handle s g frame room =
-    check (zoneGroup g) (refuse s SourceGroup)
-    (check (leb 1028 room) (refuse s ShortBuffer)
+    given (ltb 31 g) (refuse s SourceGroup)
+    (given (ltb room 1028) (refuse s ShortBuffer)
     (handleJudged s g frame (judge frame)))
 
 -- What the lent buffer holds afterwards: "state and buffer stay", or "The buffer past any response is unchanged."

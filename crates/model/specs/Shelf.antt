@@ -1,6 +1,6 @@
 -- "The shelf": its phys, how a new one starts, and how one of its phys is put back changed.
 use Prim.Native.Nat.{ℕ, min}
-use mathlib.Core.Bool.{Bool, true, false, cond}
+use mathlib.Core.Bool.{Bool, true, false, not, cond}
 use mathlib.Core.List.{List, [], _∷_}
 use lib.Dec.{ltb}
 use lib.ListN.{getD, set, replicate}
@@ -12,7 +12,7 @@ use Rattle.model.specs.declared.Shelf.{Shelf}
 use Rattle.model.specs.declared.Taken.{Taken}
 use Rattle.model.specs.declared.Taken.the-variants.{Done, NotDone}
 use Rattle.model.specs.Bytes.{zeros}
-use Rattle.model.specs.Tests.{check, within, allBelow, joinBelow}
+use Rattle.model.specs.Tests.{given, within, allBelow, joinBelow}
 use Rattle.model.specs.Zone.{zoneGroup, legalTable}
 
 -- "1 to 24 phys, numbered from 0." A record has room for 24, so a shelf that no start made has no more than that either.
@@ -38,22 +38,50 @@ noPhy =
 abbrev pub phyAt : Shelf → ℕ → Phy
 phyAt s p = getD (s .phys) p noPhy
 
--- the shelf with another record for phy p and another change count, and everything else as it was
-abbrev pub put : Shelf → ℕ → Phy → ℕ → Shelf
-put s p x count =
+-- ---- Changing a part: everything that is not named stays as it was
+
+abbrev pub monitor : ℕ → ℕ → ℕ → Monitor
+monitor source value threshold = record { source = source; value = value; threshold = threshold }
+
+-- a phy with other numbers, in the group that it had
+abbrev pub phyWith : Phy → Bool → List ℕ → List Monitor → ℕ → ℕ → ℕ → Phy
+phyWith x enabled errors monitors change0 expander1 expander2 =
+    record {
+      group = x .group;
+      enabled = enabled;
+      errors = errors;
+      monitors = monitors;
+      change0 = change0;
+      expander1 = expander1;
+      expander2 = expander2;
+    }
+
+-- a shelf with other phys and counts, and the phy number, table and identifier that it had
+abbrev pub shelfWith : Shelf → List Phy → ℕ → ℕ → ℕ → Shelf
+shelfWith s phys changes expander3 ses0 =
     record {
       number = s .number;
-      phys = set (s .phys) p x;
+      phys = phys;
       table = s .table;
       identifier = s .identifier;
-      changes = count;
-      expander3 = s .expander3;
-      ses0 = s .ses0;
+      changes = changes;
+      expander3 = expander3;
+      ses0 = ses0;
     }
+
+-- another record for phy p, and another change count
+abbrev pub put : Shelf → ℕ → Phy → ℕ → Shelf
+put s p x changes = shelfWith s (set (s .phys) p x) changes (s .expander3) (s .ses0)
+
+-- other counts under FFh
+abbrev pub putDevice : Shelf → ℕ → ℕ → Shelf
+putDevice s expander3 ses0 = shelfWith s (s .phys) (s .changes) expander3 ses0
+
+-- ---- A start
 
 -- "All phys are enabled, .. every other number is 0, and every monitor's source is 00h."
 abbrev pub freshMonitor : Monitor
-freshMonitor = record { source = 0x00; value = 0; threshold = 0 }
+freshMonitor = monitor 0x00 0 0
 
 abbrev pub freshPhy : ℕ → Phy
 freshPhy g =
@@ -96,9 +124,9 @@ outcome (NotDone house) old new = record { taken = NotDone house; shelf = old }
 -- H1 "phy number not 1 to 24", H2 "a phy's group is above 31", H3 "table not legal"
 unfoldable pub startTaken : ℕ → List ℕ → List ℕ → Taken
 startTaken n groups table =
-    check (within 1 24 n) (NotDone PhyNumber)
-    (check (allBelow n (λ p. zoneGroup (getD groups p 0))) (NotDone PhyGroup)
-    (check (legalTable table) (NotDone IllegalTable)
+    given (not (within 1 24 n)) (NotDone PhyNumber)
+    (given (not (allBelow n (λ p. zoneGroup (getD groups p 0)))) (NotDone PhyGroup)
+    (given (not (legalTable table)) (NotDone IllegalTable)
     Done))
 
 -- "A start takes phy number, 24 groups, table and identifier."

@@ -1,6 +1,6 @@
--- The small words that document 01's sentences are made of: what comes first decides, from .. to, one of, all, how many, in rising order.
+-- The small words that document 01's sentences are made of.
 use Prim.Native.Nat.{ℕ, zero, suc, _+_}
-use mathlib.Core.Bool.{Bool, true, false, _&&_, _||_}
+use mathlib.Core.Bool.{Bool, true, false, not, _&&_, _||_}
 use mathlib.Core.List.{List, [], _∷_, _++_}
 use lib.Dec.{leb, eqb}
 
@@ -8,6 +8,10 @@ use lib.Dec.{leb, eqb}
 abbrev pub check {ℓ} : {A : Type ℓ} → Bool → A → A → A
 check true failure rest = rest
 check false failure rest = failure
+
+-- "Given exactly when .. The lowest number that applies is given": where the condition holds the refusal, and where it does not, go on.
+abbrev pub given {ℓ} : {A : Type ℓ} → Bool → A → A → A
+given condition refusal rest = check (not condition) refusal rest
 
 -- n is one of the numbers from low to high
 abbrev pub within : ℕ → ℕ → ℕ → Bool

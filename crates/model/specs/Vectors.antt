@@ -8,14 +8,13 @@ use Rattle.model.specs.declared.Monitor.{Monitor}
 use Rattle.model.specs.declared.Shelf.{Shelf}
 use Rattle.model.specs.Bytes.{zeros, text}
 use Rattle.model.specs.Cases.{Case, Send, Lend, Look, H, Bytes, Numbers, fresh, on, sent}
-use Rattle.model.specs.Counting.{phyWith}
 use Rattle.model.specs.Hex.{hex}
 use Rattle.model.specs.House.{takenNumber}
 use Rattle.model.specs.Reply.{errorAt, monitorAt}
-use Rattle.model.specs.Reports.{event, linkChange, withDevice}
+use Rattle.model.specs.Reports.{event, linkChange}
 use Rattle.model.specs.Runs.{Operation, Event, LinkChange, ReducedFunctionality, Ses}
 use Rattle.model.specs.Server.{lentAfter}
-use Rattle.model.specs.Shelf.{phyAt, put, start}
+use Rattle.model.specs.Shelf.{phyWith, phyAt, put, putDevice, start}
 use Rattle.model.specs.ShelfW.{shelfW, groupsW, tableW, identifierW}
 
 -- ---- Frames
@@ -82,11 +81,11 @@ countsW =
     let s1 : Shelf = withCounts s0 1 0x0101 0x0201 0x0301 in
     let s2 : Shelf = withCounts s1 2 0x0102 0x0202 0x0302 in
     let s3 : Shelf = withCounts s2 3 0x0103 0x0203 0x0303 in
-    withDevice s3 0x0400 0x0500
+    putDevice s3 0x0400 0x0500
 
 -- shelf W where each broadcast count of phy 0, and each under FFh, stands at FFFFh
 abbrev pub fullW : Shelf
-fullW = withDevice (withCounts shelfW 0 0xFFFF 0xFFFF 0xFFFF) 0xFFFF 0xFFFF
+fullW = putDevice (withCounts shelfW 0 0xFFFF 0xFFFF 0xFFFF) 0xFFFF 0xFFFF
 
 -- phy 0 is to watch 2Dh with threshold 10, 2Dh with threshold 11, 02h with threshold 5, and nothing
 abbrev pub watching : Operation

@@ -11,9 +11,9 @@ use Rattle.model.specs.declared.Request.the-variants.{ReportGeneral, Rep
 use Rattle.model.specs.declared.Request.the-variants.{ReportPhyErrorLog, ReportPhyEvent, PhyControl}
 use Rattle.model.specs.declared.Request.the-variants.{ConfigurePhyEvent}
 use Rattle.model.specs.declared.Shelf.{Shelf}
-use Rattle.model.specs.Counting.{originate, withValue, phyWith, changeOn}
+use Rattle.model.specs.Counting.{originate, withValue, changeOn}
 use Rattle.model.specs.Request.{descriptorSource, descriptorThreshold}
-use Rattle.model.specs.Shelf.{phyAt, put}
+use Rattle.model.specs.Shelf.{monitor, phyWith, phyAt, put}
 use Rattle.model.specs.Sources.{peak}
 
 -- 91h 05h: "sets the four error counts to 0"
@@ -37,11 +37,9 @@ controlChanges operation x = eqb operation 0x01 || eqb operation 0x03 && x .enab
 -- 93h: "Descriptor i sets monitor i; a changed source sets the value to 0, the same source keeps it."
 unfoldable pub setMonitor : List ℕ → ℕ → Monitor → Monitor
 setMonitor frame i m =
-    record {
-      source = descriptorSource frame i;
-      value = cond (eqb (m .source) (descriptorSource frame i)) (m .value) 0;
-      threshold = descriptorThreshold frame i;
-    }
+    monitor (descriptorSource frame i)
+    (cond (eqb (m .source) (descriptorSource frame i)) (m .value) 0)
+    (descriptorThreshold frame i)
 
 -- the monitors from i on, of which those below d have a descriptor
 unfoldable pub setMonitors : List ℕ → ℕ → ℕ → List Monitor → List Monitor

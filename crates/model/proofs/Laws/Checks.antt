@@ -1,35 +1,50 @@
--- When a row of checks is passed: starts and event reports both have three, each with its house refusal. Assumes nothing.
+-- When none of a row of house refusals is given. Starts and event reports both have three. Assumes nothing.
 use Prim.Native.Nat.{ℕ}
 use native.Mathlib.Omega.{arith}
 use mathlib.Core.Path.{_≡_, refl}
-use mathlib.Core.Logic.{_↔_}
-use mathlib.Core.Bool.{Bool}
-use lib.Dec.{T}
+use mathlib.Core.Logic.{_↔_, Iff·trans}
+use mathlib.Core.Bool.{Bool, not}
+use lib.Dec.{T, T-not, not-T}
 use Rattle.model.specs.declared.House.{House}
+use Rattle.model.specs.declared.Shelf.{Shelf}
 use Rattle.model.specs.declared.Taken.{Taken}
 use Rattle.model.specs.declared.Taken.the-variants.{Done, NotDone}
-use Rattle.model.specs.Tests.{check}
-use Rattle.model.proofs.Laws.Tests.{check-iff}
+use Rattle.model.specs.Shelf.{outcome}
+use Rattle.model.specs.Tests.{given}
+use Rattle.model.proofs.Laws.Tests.{check-iff, not-not-iff}
 
-pub refused-not-done : (house : House) → NotDone house ≡ Done → ⊥
+refused-not-done : (house : House) → NotDone house ≡ Done → ⊥
 refused-not-done house e = let z : _≡_ {A = ℕ} 0 1 = cc in omega arith
 
-pub one-check-iff : (a : Bool) (h : House) (rest : Taken)
-    → (check a (NotDone h) rest ≡ Done) ↔ (T a × (rest ≡ Done))
-one-check-iff a h rest = check-iff a (NotDone h) rest Done (refused-not-done h)
+-- one refusal is not given, and the rest comes out done
+pub given-iff : (a : Bool) (house : House) (rest : Taken)
+    → (given a (NotDone house) rest ≡ Done) ↔ ((T a → ⊥) × (rest ≡ Done))
+given-iff a house rest =
+    Iff·trans (check-iff (not a) (NotDone house) rest Done (refused-not-done house))
+    (λ h. (T-not a (h .0), h .1), λ h. (not-T a (h .0), h .1))
 
-pub three-checks-iff : (a b c : Bool) (h₁ h₂ h₃ : House) {A B C : Type 0}
-    → T a ↔ A → T b ↔ B → T c ↔ C
-    → (check a (NotDone h₁) (check b (NotDone h₂) (check c (NotDone h₃) Done)) ≡ Done) ↔ (A × B × C)
-three-checks-iff a b c h₁ h₂ h₃ f g h = (
+-- none of three is given, in the words of what each condition being false says
+pub none-given-iff : (a b c : Bool) (h₁ h₂ h₃ : House) {A B C : Type 0}
+    → (T a → ⊥) ↔ A → (T b → ⊥) ↔ B → (T c → ⊥) ↔ C
+    → (given a (NotDone h₁) (given b (NotDone h₂) (given c (NotDone h₃) Done)) ≡ Done) ↔ (A × B × C)
+none-given-iff a b c h₁ h₂ h₃ f g h = (
   λ e.
-      let (x, e₁) = one-check-iff a h₁ (check b (NotDone h₂) (check c (NotDone h₃) Done)) .0 e in
-      let (y, e₂) = one-check-iff b h₂ (check c (NotDone h₃) Done) .0 e₁ in
-      let (z, e₃) = one-check-iff c h₃ Done .0 e₂ in
+      let (x, e₁) = given-iff a h₁ (given b (NotDone h₂) (given c (NotDone h₃) Done)) .0 e in
+      let (y, e₂) = given-iff b h₂ (given c (NotDone h₃) Done) .0 e₁ in
+      let (z, e₃) = given-iff c h₃ Done .0 e₂ in
       (f .0 x, g .0 y, h .0 z),
   λ p.
-      one-check-iff a h₁ (check b (NotDone h₂) (check c (NotDone h₃) Done)) .1 (
+      given-iff a h₁ (given b (NotDone h₂) (given c (NotDone h₃) Done)) .1 (
         f .1 (p .0),
-        one-check-iff b h₂ (check c (NotDone h₃) Done) .1 (g .1 (p .1), one-check-iff c h₃ Done .1 (h .1 (p .2), refl)),
+        given-iff b h₂ (given c (NotDone h₃) Done) .1 (g .1 (p .1), given-iff c h₃ Done .1 (h .1 (p .2), refl)),
       ),
 )
+
+-- a condition that says "not .." is false exactly if what stands behind the "not" holds
+pub unless-iff : (a : Bool) {A : Type 0} → T a ↔ A → (T (not a) → ⊥) ↔ A
+unless-iff a f = Iff·trans (not-not-iff a) f
+
+-- what is told of an outcome is what was judged
+pub outcome-taken : (taken : Taken) (old new : Shelf) → outcome taken old new .taken ≡ taken
+outcome-taken Done old new = refl
+outcome-taken (NotDone house) old new = refl

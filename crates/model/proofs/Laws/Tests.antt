@@ -4,7 +4,7 @@ use native.Mathlib.Nat.{not-suc-le-zero, le-of-suc-le-suc, eq-or-lt-of-le}
 use native.Mathlib.Omega.{arith}
 use mathlib.Core.Path.{_≡_, refl, subst⁻¹}
 use mathlib.Core.Logic.{_↔_, _⊎_, inl, inr, ⊎-elim, Iff·trans, Iff·symm, Iff·and}
-use mathlib.Core.Bool.{Bool, true, false, _&&_, _||_, Bool·beq, or-assoc, true≢false, false≢true}
+use mathlib.Core.Bool.{Bool, true, false, not, _&&_, _||_, Bool·beq, or-assoc, true≢false, false≢true}
 use mathlib.Core.List.{List, [], _∷_, List·Memᴰ, List·Memᴰ·head, List·Memᴰ·tail, List·Memᴰ·cases-cons}
 use mathlib.Core.List.{List·Memᴰ·not-nil}
 use lib.Dec.{T, leb, ltb, eqb, leb→le, le→leb, ltb→lt, lt→ltb, eqb→eq, eqb-refl}
@@ -19,6 +19,10 @@ and-iff false b = (λ t. absurd t, λ p. p .0)
 pub or-iff : (a b : Bool) → T (a || b) ↔ (T a ⊎ T b)
 or-iff true b = (λ t. inl tt, λ s. tt)
 or-iff false b = (λ t. inr t, elim [ inl t ↦ absurd t | inr t ↦ t ])
+
+pub not-not-iff : (a : Bool) → (T (not a) → ⊥) ↔ T a
+not-not-iff true = (λ f. tt, λ t e. e)
+not-not-iff false = (λ f. f tt, λ t e. t)
 
 pub same-iff : (a b : Bool) → T (Bool·beq a b) ↔ (a ≡ b)
 same-iff true true = (λ t. refl, λ e. tt)

@@ -1,26 +1,29 @@
--- When a frame is a request, of a known function and of a right length, and which descriptor is the first unsupported one,
+-- When a frame is bad, of a known function and of a right length, and which descriptor is the first unsupported one,
 -- in plain logic. Assumes nothing.
 use Prim.Native.Nat.{ℕ, zero, suc, _+_, _*_, _≤_, _<_, zero-le}
 use native.Mathlib.Nat.{eq-or-lt-of-le, not-le-of-lt}
 use native.Mathlib.Omega.{arith}
 use mathlib.Core.Path.{_≡_, refl, subst}
 use mathlib.Core.Logic.{_↔_, _⊎_, ⊎-elim}
-use mathlib.Core.Bool.{Bool, true, false, cond, _||_, or-assoc}
+use mathlib.Core.Bool.{Bool, true, false, not, cond, _||_, or-assoc}
 use mathlib.Core.List.{List, [], _∷_, List·Memᴰ}
-use lib.Dec.{T, leb, eqb}
+use lib.Dec.{T, ltb, eqb, T-not, not-T}
 use lib.ListN.{length}
 use Rattle.model.specs.Bytes.{byte}
-use Rattle.model.specs.Request.{isRequest, functionOf, known, shaped, lengthRight, descriptorSource, allowed}
+use Rattle.model.specs.Request.{badFrame, functionOf, known, shaped, lengthRight, descriptorSource, allowed}
 use Rattle.model.specs.Request.{firstUnsupported}
 use Rattle.model.specs.Sources.{supported}
 use Rattle.model.specs.Tests.{oneOf}
-use Rattle.model.proofs.Laws.Tests.{both-iff, all-three-iff, either-iff, leb-iff, eqb-iff, oneOf-iff}
+use Rattle.model.proofs.Laws.Tests.{all-three-iff, either-iff, ltb-iff, eqb-iff, oneOf-iff}
 
--- not H6: four bytes or more, of which the first is 40h
-pub is-request : (frame : List ℕ) → T (isRequest frame) ↔ ((4 ≤ length frame) × (byte frame 0 ≡ 0x40))
-unfolding isRequest
-is-request frame =
-    both-iff (leb 4 (length frame)) (eqb (byte frame 0) 0x40) (leb-iff 4 (length frame)) (eqb-iff (byte frame 0) 0x40)
+-- H6: under four bytes, or the first is not 40h
+pub bad-frame : (frame : List ℕ) → T (badFrame frame) ↔ ((length frame < 4) ⊎ (byte frame 0 ≡ 0x40 → ⊥))
+unfolding badFrame
+bad-frame frame =
+    either-iff (ltb (length frame) 4) (not (eqb (byte frame 0) 0x40)) (ltb-iff (length frame) 4) (
+      λ t e. T-not (eqb (byte frame 0) 0x40) t (eqb-iff (byte frame 0) 0x40 .1 e),
+      λ f. not-T (eqb (byte frame 0) 0x40) (λ t. f (eqb-iff (byte frame 0) 0x40 .0 t)),
+    )
 
 -- not 01h: one of the seven functions
 pub known-iff : (function : ℕ)

@@ -2,6 +2,7 @@
 use Prim.Native.Nat.{ℕ, _≤_, _<_}
 use mathlib.Core.Path.{_≡_}
 use mathlib.Core.Logic.{_↔_, Iff·trans}
+use mathlib.Core.Bool.{not}
 use mathlib.Core.List.{List}
 use lib.Dec.{T}
 use lib.ListN.{getD}
@@ -12,7 +13,7 @@ use Rattle.model.specs.declared.Taken.the-variants.{Done, NotDone}
 use Rattle.model.specs.Shelf.{phyAt, noPhy, freshPhy, startGroup, freshShelf, noShelf, startTaken, start}
 use Rattle.model.specs.Tests.{within, allBelow}
 use Rattle.model.specs.Zone.{zoneGroup, legalTable}
-use Rattle.model.proofs.Laws.Checks.{three-checks-iff}
+use Rattle.model.proofs.Laws.Checks.{none-given-iff, unless-iff}
 use Rattle.model.proofs.Laws.Join.{join-at}
 use Rattle.model.proofs.Laws.Tests.{within-iff, leb-iff, allBelow-iff}
 use Rattle.model.proofs.Plain.Zone.{LegalTable, legal-table}
@@ -34,13 +35,13 @@ pub start-done : (n : ℕ) (groups table : List ℕ) → (startTaken n groups ta
 unfolding startTaken
 start-done n groups table =
     Iff·trans
-    (three-checks-iff (within 1 24 n) (allBelow n (λ p. zoneGroup (getD groups p 0))) (legalTable table)
+    (none-given-iff (not (within 1 24 n)) (not (allBelow n (λ p. zoneGroup (getD groups p 0)))) (not (legalTable table))
     PhyNumber
     PhyGroup
     IllegalTable
-    (within-iff 1 24 n)
-    (groups-iff n groups)
-    (legal-table table))
+    (unless-iff (within 1 24 n) (within-iff 1 24 n))
+    (unless-iff (allBelow n (λ p. zoneGroup (getD groups p 0))) (groups-iff n groups))
+    (unless-iff (legalTable table) (legal-table table)))
     (λ p. record { number = p .0; groups-fit = p .1; legal = p .2 }, λ r. (r .number, r .groups-fit, r .legal))
 
 -- the device: phy p has the group that was given for it, and is fresh; past the phy number the group is 0
