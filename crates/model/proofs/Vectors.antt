@@ -22,7 +22,7 @@ results-hold =
 pub frames-hold : Holds frames
 unfolding frames computes
 frames-hold =
-    (refl, (refl, (refl, (refl, (refl, (refl, (refl, (refl, (refl, (refl, (refl, (refl, (refl, tt)))))))))))))
+    (refl, (refl, (refl, (refl, (refl, (refl, (refl, (refl, (refl, (refl, (refl, (refl, (refl, (refl, (refl, tt)))))))))))))))
 
 pub peaks-hold : Holds peaks
 unfolding peaks computes

@@ -330,6 +330,15 @@ frames =
     ∷ [])
     (Look (λ s. monitors0 s ++ counts0 s))
     (Numbers (0x02 ∷ 0 ∷ 20 ∷ 0x2D ∷ 0 ∷ 11 ∷ 0x02 ∷ 3 ∷ 5 ∷ 0x00 ∷ 0 ∷ 0 ∷ 0 ∷ 0 ∷ 1 ∷ 0x0001 ∷ []))
+    -- 93h: the clear looks at the sources that stand after the setting: a peak that this request sets, one that it replaces
+    ∷ on 0x93 shelfW
+    (sent 8 (configure 0x04 0x00 0x01 0 1 (watch 0x2D 10)) ∷ [])
+    (Look counts0)
+    (Numbers (0 ∷ 0 ∷ 1 ∷ 0x0001 ∷ []))
+    ∷ on 0x93 shelfW
+    (sent 8 (configure 0x04 0x00 0x00 0 1 (watch 0x2D 10)) ∷ sent 8 (configure 0x04 0x00 0x01 0 1 (watch 0x02 10)) ∷ [])
+    (Look counts0)
+    (Numbers (0 ∷ 0 ∷ 0 ∷ 0x0001 ∷ []))
     ∷ []
 
 -- ---- Counting
