@@ -1,6 +1,6 @@
 -- The further cases hold of the definitions too, by computation.
 use mathlib.Core.Path.{refl}
-use Rattle.model.specs.Vectors.{easilyWrong, refusals, results, frames, peaks}
+use Rattle.model.specs.Vectors.{easilyWrong, starts, refusals, results, frames, stays, peaks}
 use Rattle.model.proofs.Computes.{computes}
 use Rattle.model.proofs.Holds.{Holds}
 
@@ -9,10 +9,15 @@ unfolding easilyWrong computes
 easily-wrong-hold =
     (refl, (refl, (refl, (refl, (refl, (refl, (refl, (refl, (refl, (refl, (refl, tt)))))))))))
 
+pub starts-hold : Holds starts
+unfolding starts computes
+starts-hold =
+    (refl, (refl, (refl, (refl, (refl, (refl, (refl, (refl, (refl, (refl, tt))))))))))
+
 pub refusals-hold : Holds refusals
 unfolding refusals computes
 refusals-hold =
-    (refl, (refl, (refl, (refl, (refl, (refl, (refl, (refl, (refl, (refl, (refl, (refl, tt))))))))))))
+    (refl, (refl, (refl, (refl, (refl, (refl, (refl, (refl, (refl, (refl, tt))))))))))
 
 pub results-hold : Holds results
 unfolding results computes
@@ -23,6 +28,11 @@ pub frames-hold : Holds frames
 unfolding frames computes
 frames-hold =
     (refl, (refl, (refl, (refl, (refl, (refl, (refl, (refl, (refl, (refl, (refl, (refl, (refl, (refl, (refl, tt)))))))))))))))
+
+pub stays-hold : Holds stays
+unfolding stays computes
+stays-hold =
+    (refl, (refl, (refl, (refl, (refl, (refl, (refl, (refl, (refl, (refl, (refl, (refl, tt))))))))))))
 
 pub peaks-hold : Holds peaks
 unfolding peaks computes

@@ -1,9 +1,9 @@
 -- More cases of the same kind as document 01's, worked out by hand from its sentences: where it says "Easily got wrong", and at the
 -- ends of each rule. `proofs/Vectors` has the theorem that all hold.
 use Prim.Native.Nat.{ℕ, _+_}
-use mathlib.Core.Bool.{cond}
-use mathlib.Core.List.{List, [], _∷_, _++_}
-use lib.ListN.{replicate, set}
+use mathlib.Core.Bool.{true, cond}
+use mathlib.Core.List.{List, [], _∷_, _++_, map}
+use lib.ListN.{length, replicate, set}
 use Rattle.model.specs.declared.Monitor.{Monitor}
 use Rattle.model.specs.declared.Shelf.{Shelf}
 use Rattle.model.specs.Bytes.{zeros, text}
@@ -14,7 +14,7 @@ use Rattle.model.specs.Reply.{errorAt, monitorAt}
 use Rattle.model.specs.Reports.{event, linkChange}
 use Rattle.model.specs.Runs.{Operation, Event, LinkChange, ReducedFunctionality, Ses}
 use Rattle.model.specs.Server.{lentAfter}
-use Rattle.model.specs.Shelf.{phyWith, phyAt, put, putDevice, start}
+use Rattle.model.specs.Shelf.{monitor, phyWith, phyAt, put, putDevice, noShelf, start}
 use Rattle.model.specs.ShelfW.{shelfW, groupsW, tableW, identifierW}
 
 -- ---- Frames
@@ -91,6 +91,31 @@ fullW = putDevice (withCounts shelfW 0 0xFFFF 0xFFFF 0xFFFF) 0xFFFF 0xFFFF
 abbrev pub watching : Operation
 watching = sent 8 (configure 0x0A 0x01 0x00 0 4 (watch 0x2D 10 ++ watch 0x2D 11 ++ watch 0x02 5 ++ watch 0x00 0))
 
+-- shelf W where no number of phy 0 is 0
+abbrev pub busyW : Shelf
+busyW =
+    put countsW 0
+    (phyWith (phyAt countsW 0) true
+    (11 ∷ 12 ∷ 13 ∷ 14 ∷ [])
+    (monitor 0x2D 9 10 ∷ monitor 0x2C 8 20 ∷ monitor 0x02 7 5 ∷ monitor 0x40 6 1 ∷ [])
+    0x0100
+    0x0200
+    0x0300)
+    0x0007
+
+-- all of them, with the counts under FFh and the change count
+abbrev pub all0 : Shelf → List ℕ
+all0 s =
+    (phyAt s 0 .group ∷ cond (phyAt s 0 .enabled) 1 0 ∷ [])
+    ++ phyAt s 0 .errors
+    ++ monitors0 s
+    ++ (phyAt s 0 .change0 ∷ phyAt s 0 .expander1 ∷ phyAt s 0 .expander2 ∷ [])
+    ++ (s .expander3 ∷ s .ses0 ∷ s .changes ∷ [])
+
+-- as they stand there: group and enabled, errors, monitors, the phy's counts, the others
+abbrev pub everything : List ℕ → List ℕ → List ℕ → List ℕ → List ℕ → List ℕ
+everything link errors monitors counts others = link ++ errors ++ monitors ++ counts ++ others
+
 -- ---- "Easily got wrong", in its order
 
 unfoldable pub easilyWrong : List Case
@@ -165,12 +190,38 @@ easilyWrong =
     ++ hex "03 00 02 00 03 03 00 00"))
     ∷ []
 
--- ---- House refusals
+-- ---- A start
 
-unfoldable pub refusals : List Case
-refusals =
-    -- H1, H1, H2, H3 (row 0), H3 (row 1), H3 (not symmetric), H2 before H3, and a group past the phy number is ignored
+-- every group of the 24 places
+abbrev pub groupsOf : Shelf → List ℕ
+groupsOf s = map (λ x. x .group) (s .phys)
+
+unfoldable pub starts : List Case
+starts =
+    -- the phy number, the change count 0001h, and 0 under FFh; the identifier
     fresh 1
+    (Look (λ s. s .number ∷ s .changes ∷ s .expander3 ∷ s .ses0 ∷ []))
+    (Numbers (4 ∷ 0x0001 ∷ 0 ∷ 0 ∷ []))
+    ∷ fresh 1 (Look (λ s. s .identifier)) (Numbers (hex "01 02 03 04 05 06 07 08"))
+    -- a phy: enabled, no Change; four error counts and four monitors, all 0; no broadcast counts
+    ∷ fresh 1 (Look link0) (Numbers (1 ∷ 0 ∷ 0x0001 ∷ []))
+    ∷ fresh 1 (Look (λ s. phyAt s 0 .errors)) (Numbers (zeros 4))
+    ∷ fresh 1 (Look (λ s. monitors0 s ++ (length (phyAt s 0 .monitors) ∷ []))) (Numbers (zeros 12 ++ (4 ∷ [])))
+    ∷ fresh 1 (Look counts0) (Numbers (0 ∷ 0 ∷ 0 ∷ 0x0001 ∷ []))
+    -- each phy has its own group, and a group past the phy number leaves no trace
+    ∷ fresh 1
+    (Look (λ s. groupsOf (start 4 (set groupsW 4 99) tableW identifierW .shelf)))
+    (Numbers (8 ∷ 8 ∷ 9 ∷ 1 ∷ zeros 20))
+    -- 1 and 24 phys, group 31
+    ∷ fresh 1
+    (Look
+    (λ s. takenNumber (start 1 groupsW tableW identifierW .taken)
+    ∷ takenNumber (start 24 groupsW tableW identifierW .taken)
+    ∷ takenNumber (start 4 (set groupsW 3 31) tableW identifierW .taken)
+    ∷ []))
+    (Numbers (0 ∷ 0 ∷ 0 ∷ []))
+    -- H1, H1, H2, H3 (row 0), H3 (row 1), H3 (not symmetric), H2 before H3, H1 before H2, and a group past the phy number is ignored
+    ∷ fresh 3
     (Look
     (λ s. takenNumber (start 0 groupsW tableW identifierW .taken)
     ∷ takenNumber (start 25 groupsW tableW identifierW .taken)
@@ -179,15 +230,28 @@ refusals =
     ∷ takenNumber (start 4 groupsW (set tableW 1 0xFFFFFFFD) identifierW .taken)
     ∷ takenNumber (start 4 groupsW (set tableW 8 0x00000302) identifierW .taken)
     ∷ takenNumber (start 4 (set groupsW 0 264) (set tableW 0 0x00000003) identifierW .taken)
+    ∷ takenNumber (start 25 (set groupsW 0 264) tableW identifierW .taken)
     ∷ takenNumber (start 4 (set groupsW 4 99) tableW identifierW .taken)
     ∷ []))
-    (Numbers (1 ∷ 1 ∷ 2 ∷ 3 ∷ 3 ∷ 3 ∷ 2 ∷ 0 ∷ []))
-    -- a refused start gives no device: no phys
+    (Numbers (1 ∷ 1 ∷ 2 ∷ 3 ∷ 3 ∷ 3 ∷ 2 ∷ 1 ∷ 0 ∷ []))
+    -- a refused start gives no device: no phys, in a record of the right sizes
     ∷ fresh 3
-    (Look (λ s. start 4 groupsW (set tableW 0 0x00000003) identifierW .shelf .number ∷ []))
-    (Numbers (0 ∷ []))
+    (Look
+    (λ s. noShelf .number
+    ∷ length (noShelf .phys)
+    ∷ length (noShelf .table)
+    ∷ length (noShelf .identifier)
+    ∷ start 4 groupsW (set tableW 0 0x00000003) identifierW .shelf .number
+    ∷ []))
+    (Numbers (0 ∷ 24 ∷ 32 ∷ 8 ∷ 0 ∷ []))
+    ∷ []
+
+-- ---- House refusals
+
+unfoldable pub refusals : List Case
+refusals =
     -- H4 before H5 before H6; H5 of 1,027 bytes (case 13)
-    ∷ fresh 4 (Lend 0 32 []) (H 4)
+    fresh 4 (Lend 0 32 []) (H 4)
     ∷ fresh 4 (Lend 0 264 (readBroadcasts 0x00)) (H 4)
     ∷ fresh 5 (Lend 1027 31 []) (H 5)
     ∷ fresh 5 (Lend 1027 1 (readBroadcasts 0x00)) (H 5)
@@ -339,6 +403,71 @@ frames =
     (sent 8 (configure 0x04 0x00 0x00 0 1 (watch 0x2D 10)) ∷ sent 8 (configure 0x04 0x00 0x01 0 1 (watch 0x02 10)) ∷ [])
     (Look counts0)
     (Numbers (0 ∷ 0 ∷ 0 ∷ 0x0001 ∷ []))
+    ∷ []
+
+-- ---- What an operation doesn't name stays as it was
+
+abbrev pub link : List ℕ
+link = 8 ∷ 1 ∷ []
+
+abbrev pub errors : List ℕ
+errors = 11 ∷ 12 ∷ 13 ∷ 14 ∷ []
+
+abbrev pub monitors : List ℕ
+monitors = 0x2D ∷ 9 ∷ 10 ∷ 0x2C ∷ 8 ∷ 20 ∷ 0x02 ∷ 7 ∷ 5 ∷ 0x40 ∷ 6 ∷ 1 ∷ []
+
+abbrev pub counts : List ℕ
+counts = 0x0100 ∷ 0x0200 ∷ 0x0300 ∷ []
+
+abbrev pub others : List ℕ
+others = 0x0400 ∷ 0x0500 ∷ 0x0007 ∷ []
+
+unfoldable pub stays : List Case
+stays =
+    -- nothing has happened yet; a peak crosses its threshold; 02h counts, in its monitor and its error count
+    on 0 busyW [] (Look all0) (Numbers (everything link errors monitors counts others))
+    ∷ on 0 busyW
+    (Event 0 0x2D 10 ∷ [])
+    (Look all0)
+    (Numbers
+    (everything link errors (set monitors 1 10) (set counts 1 0x0201) others))
+    ∷ on 0 busyW
+    (Event 0 0x02 3 ∷ [])
+    (Look all0)
+    (Numbers (everything link (set errors 1 15) (set monitors 7 10) counts others))
+    -- a link change; the two notices
+    ∷ on 0 busyW
+    (LinkChange 0 ∷ [])
+    (Look all0)
+    (Numbers (everything link errors monitors (set counts 0 0x0101) (set others 2 0x0008)))
+    ∷ on 0 busyW (ReducedFunctionality ∷ []) (Look all0) (Numbers (everything link errors monitors counts (set others 0 0x0401)))
+    ∷ on 0 busyW (Ses ∷ []) (Look all0) (Numbers (everything link errors monitors counts (set others 1 0x0501)))
+    -- 91h: none, link reset, disable, errors to 0
+    ∷ on 0 busyW
+    (sent 8 (control 0x09 0x07 0 0x00) ∷ [])
+    (Look all0)
+    (Numbers (everything link errors monitors counts others))
+    ∷ on 0 busyW
+    (sent 8 (control 0x09 0x07 0 0x01) ∷ [])
+    (Look all0)
+    (Numbers (everything link errors monitors (set counts 0 0x0101) (set others 2 0x0008)))
+    ∷ on 0 busyW
+    (sent 8 (control 0x09 0x07 0 0x03) ∷ [])
+    (Look all0)
+    (Numbers (everything (set link 1 0) errors monitors (set counts 0 0x0101) (set others 2 0x0008)))
+    ∷ on 0 busyW
+    (sent 8 (control 0x09 0x07 0 0x05) ∷ [])
+    (Look all0)
+    (Numbers (everything link (zeros 4) monitors counts others))
+    -- 93h: one descriptor, and the clear
+    ∷ on 0 busyW
+    (sent 8 (configure 0x04 0x07 0x00 0 1 (watch 0x2D 0x63)) ∷ [])
+    (Look all0)
+    (Numbers (everything link errors (set monitors 2 0x63) counts others))
+    ∷ on 0 busyW
+    (sent 8 (configure 0x02 0x07 0x01 0 0 []) ∷ [])
+    (Look all0)
+    (Numbers (everything link errors (set (set monitors 1 0) 4 0) (set counts 2 0x0301) others))
     ∷ []
 
 -- ---- Counting

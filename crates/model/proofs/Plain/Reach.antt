@@ -1,13 +1,13 @@
 -- Which phys exist and which a source reaches, and what a reach query's two numbers are, in plain logic. Assumes nothing.
 use Prim.Native.Nat.{ℕ, _/_, _%_, _^_, _≤_, _<_}
-use native.Mathlib.Nat.{lt-of-lt-of-le}
+use native.Mathlib.Nat.{lt-of-lt-of-le, zero-div}
 use native.Mathlib.Omega.{arith}
 use mathlib.Core.Path.{_≡_, sym}
 use mathlib.Core.Logic.{_↔_, Iff·trans}
 use mathlib.Core.List.{List, List·Memᴰ}
 use lib.Count.{ones}
 use lib.Dec.{T}
-use lib.ListN.{length}
+use lib.ListN.{length, List·getD-eq-default}
 use lib.Pow.{pow-mono}
 use Rattle.model.specs.declared.Shelf.{Shelf}
 use Rattle.model.specs.Reach.{reaches, reachSet, reachNumber}
@@ -28,6 +28,14 @@ pub reaches-iff : (s : Shelf) (g p : ℕ)
     → T (reaches s g p)
     ↔ ((phyAt s p .group ≤ 31) × (row (s .table) g / 2 ^ phyAt s p .group % 2 ≡ 1))
 reaches-iff s g p = row-reaches (row (s .table) g) (phyAt s p .group)
+
+-- a source past the table's last row reaches nothing
+pub reaches-nothing : (s : Shelf) (g p : ℕ) → length (s .table) ≤ g → T (reaches s g p) → ⊥
+reaches-nothing s g p h t =
+    let empty : row (s .table) g ≡ 0 = List·getD-eq-default (s .table) 0 h in
+    let digit : row (s .table) g / 2 ^ phyAt s p .group % 2 ≡ 1 = reaches-iff s g p .0 t .1 in
+    let none : row (s .table) g / 2 ^ phyAt s p .group % 2 ≡ 0 = rw (empty, zero-div) in
+    omega arith
 
 -- the set has bit p exactly if phy p exists and is reached, and fits in 24 bits
 pub reach-set : (s : Shelf) (g p : ℕ) → T (bit (reachSet s g) p) ↔ (T (exists s p) × T (reaches s g p))

@@ -1,0 +1,41 @@
+-- What a changed part leaves alone: a change of phy p leaves every other phy, the table and the counts under FFh; a change of these leaves
+-- every phy. Assumes nothing.
+use Prim.Native.Nat.{ℕ, _<_}
+use mathlib.Core.Path.{_≡_, refl}
+use lib.ListN.{length}
+use lib.Seq.{getD-set-same, getD-set-other}
+use Rattle.model.specs.declared.Phy.{Phy}
+use Rattle.model.specs.declared.Shelf.{Shelf}
+use Rattle.model.specs.Shelf.{noPhy, phyAt, put, putDevice}
+
+-- what no operation changes
+pub record SameFrame (s t : Shelf) : Type 0 where
+  pub number : t .number ≡ s .number
+  pub table : t .table ≡ s .table
+  pub identifier : t .identifier ≡ s .identifier
+
+module _ (s : Shelf) (p : ℕ) (x : Phy) (count : ℕ) where
+  pub put-frame : SameFrame s (put s p x count)
+  put-frame = record { number = refl; table = refl; identifier = refl }
+
+  pub put-same : p < length (s .phys) → phyAt (put s p x count) p ≡ x
+  put-same h = getD-set-same (s .phys) p x noPhy h
+
+  pub put-other : (q : ℕ) → (q ≡ p → ⊥) → phyAt (put s p x count) q ≡ phyAt s q
+  put-other q apart = getD-set-other (s .phys) p q x noPhy apart
+
+  pub put-count : put s p x count .changes ≡ count
+  put-count = refl
+
+  pub put-device-counts : (put s p x count .expander3 ≡ s .expander3) × (put s p x count .ses0 ≡ s .ses0)
+  put-device-counts = (refl, refl)
+
+module _ (s : Shelf) (expander3 ses0 : ℕ) where
+  pub device-frame : SameFrame s (putDevice s expander3 ses0)
+  device-frame = record { number = refl; table = refl; identifier = refl }
+
+  pub device-phys : (putDevice s expander3 ses0 .phys ≡ s .phys) × (putDevice s expander3 ses0 .changes ≡ s .changes)
+  device-phys = (refl, refl)
+
+  pub device-counts : (putDevice s expander3 ses0 .expander3 ≡ expander3) × (putDevice s expander3 ses0 .ses0 ≡ ses0)
+  device-counts = (refl, refl)
