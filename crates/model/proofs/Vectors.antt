@@ -1,6 +1,12 @@
 -- The further cases hold of the definitions too, by computation.
 use mathlib.Core.Path.{refl}
-use Rattle.model.specs.Vectors.{easilyWrong, starts, refusals, results, frames, stays, peaks}
+use Rattle.model.specs.Vectors.EasilyWrong.{easilyWrong}
+use Rattle.model.specs.Vectors.Frames.{frames}
+use Rattle.model.specs.Vectors.Peaks.{peaks}
+use Rattle.model.specs.Vectors.Refusals.{refusals}
+use Rattle.model.specs.Vectors.Results.{results}
+use Rattle.model.specs.Vectors.Starts.{starts}
+use Rattle.model.specs.Vectors.Stays.{stays}
 use Rattle.model.proofs.Computes.{computes}
 use Rattle.model.proofs.Holds.{Holds}
 
@@ -27,7 +33,7 @@ results-hold =
 pub frames-hold : Holds frames
 unfolding frames computes
 frames-hold =
-    (refl, (refl, (refl, (refl, (refl, (refl, (refl, (refl, (refl, (refl, (refl, (refl, (refl, (refl, (refl, tt)))))))))))))))
+    (refl, (refl, (refl, (refl, (refl, (refl, (refl, (refl, (refl, (refl, (refl, (refl, (refl, (refl, (refl, (refl, (refl, tt)))))))))))))))))
 
 pub stays-hold : Holds stays
 unfolding stays computes

@@ -33,6 +33,7 @@ counted source amount m =
     m
 
 -- "A peak that a report takes from below its threshold to it or above": the monitor before the report, and its value afterwards.
+-- "Threshold 0 thus never does": nothing is below 0.
 unfoldable pub crosses : Monitor → ℕ → Bool
 crosses before after = peak (before .source) && ltb (before .value) (before .threshold) && leb (before .threshold) after
 

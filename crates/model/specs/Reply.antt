@@ -105,7 +105,7 @@ broadcasts s g kind =
     deviceListed kind s
     ++ joinBelow (phyNumber s) (λ p. cond (reaches s g p) (phyListed kind p (phyAt s p)) [])
 
--- "n descriptors of 8 bytes .. Descriptor: 0 phy, 2 reason, 4 and 5 count."
+-- "n descriptors of 8 bytes .. Descriptor: 0 phy, 2 reason, 4 and 5 count." (A T10 paper shows it as 16 bytes too; 8 holds.)
 unfoldable pub broadcastBytes : List Broadcast → List ℕ
 broadcastBytes [] = []
 broadcastBytes (b ∷ bs) =

@@ -1,6 +1,6 @@
 -- One request in, one reply and the next shelf out. "Every request frame, any source group .. gets its fixed answer."
 use Prim.Native.Nat.{ℕ}
-use mathlib.Core.Bool.{Bool, cond}
+use mathlib.Core.Bool.{cond}
 use mathlib.Core.List.{List, _++_}
 use lib.Dec.{ltb}
 use lib.ListN.{length, drop}

@@ -1,10 +1,10 @@
 -- A set as a number: the sum of 2 ^ p over the p below n that pass a test has exactly their bits, and as many ones. Assumes nothing.
 use Prim.Native.Nat.{ℕ, zero, suc, _+_, _-_, _*_, _/_, _%_, _^_, _≤_, _<_}
-use native.Mathlib.Nat.{pow-suc, zero-mul, one-mul, zero-add, add-comm, div-eq-of-lt, sub-add-cancel, eq-or-lt-of-le}
+use native.Mathlib.Nat.{pow-suc, zero-mul, one-mul, add-comm, div-eq-of-lt, sub-add-cancel, eq-or-lt-of-le}
 use native.Mathlib.Nat.{le-of-suc-le-suc, not-suc-le-zero, lt-of-lt-of-le}
 use native.Mathlib.Omega.{arith}
-use mathlib.Core.Path.{_≡_, refl, sym, ap, subst, subst⁻¹, _∙_}
-use mathlib.Core.Logic.{_↔_, _⊎_, inl, inr, ⊎-elim}
+use mathlib.Core.Path.{_≡_, refl, sym, ap, subst⁻¹, _∙_}
+use mathlib.Core.Logic.{_↔_, ⊎-elim}
 use mathlib.Core.Bool.{Bool, true, false, cond}
 use borrow.Author.Tests.{ltb-true, ltb-false}
 use lib.Count.{ones, ones-cat}

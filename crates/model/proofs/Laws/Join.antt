@@ -1,6 +1,6 @@
 -- What belongs to 0, then what belongs to 1, and so on: what is in such a list, where it stands, how long it is, and when it rises.
 -- Assumes nothing.
-use Prim.Native.Nat.{ℕ, zero, suc, _+_, _≤_, _<_}
+use Prim.Native.Nat.{ℕ, zero, suc, _≤_, _<_}
 use native.Mathlib.Nat.{not-suc-le-zero, le-refl, le-trans, lt-of-lt-of-le}
 use native.Mathlib.Decide.{le-ind}
 use native.Mathlib.Omega.{arith}

@@ -9,16 +9,28 @@ use mathlib.Core.List.{List, [], _∷_, _++_, List·Memᴰ, List·Memᴰ·head, 
 use mathlib.Core.List.{List·Memᴰ·append-cases, Memᴰ·append-left, Memᴰ·append-right}
 use borrow.Author.Tests.{eqb-true, eqb-false, eq-eqb, ne-eqb}
 use lib.Dec.{T, eqb}
+use lib.ListN.{length}
+use Rattle.model.specs.declared.Monitor.{Monitor}
 use Rattle.model.specs.declared.Phy.{Phy}
 use Rattle.model.specs.declared.Shelf.{Shelf}
 use Rattle.model.specs.Reach.{reaches}
-use Rattle.model.specs.Reply.{Broadcast, listed, deviceListed, phyListed, broadcasts}
+use Rattle.model.specs.Reply.{Broadcast, eventDescriptor, broadcastBytes, listed, deviceListed, phyListed}
+use Rattle.model.specs.Reply.{broadcasts}
 use Rattle.model.specs.Shelf.{phyNumber, exists, phyAt}
 use Rattle.model.specs.Tests.{joinBelow}
 use Rattle.model.proofs.Laws.Join.{join-has, has-join, join-rising}
 use Rattle.model.proofs.Laws.Picked.{onlyIf, onlyIf-iff}
 use Rattle.model.proofs.Laws.Rising.{Rising, rising-one, rising-append, rising-cond}
 use Rattle.model.proofs.Laws.Tests.{ltb-iff}
+
+-- "descriptors of 12 bytes" (14h) and "of 8 bytes" (06h)
+pub event-descriptor-length : (m : Monitor) → length (eventDescriptor m) ≡ 12
+event-descriptor-length m = refl
+
+pub broadcast-bytes-length : (bs : List Broadcast) → length (broadcastBytes bs) ≡ 8 * length bs
+unfolding broadcastBytes
+broadcast-bytes-length [] = refl
+broadcast-bytes-length (b ∷ bs) = omega (arith, broadcast-bytes-length bs)
 
 abbrev pub entry : ℕ → ℕ → ℕ → Broadcast
 entry p r n = record { phy = p; reason = r; count = n }

@@ -1,6 +1,5 @@
 -- When the expected count and the operation of a write pass, in plain logic. Assumes nothing.
 use Prim.Native.Nat.{ℕ}
-use mathlib.Core.Path.{_≡_}
 use mathlib.Core.Logic.{_↔_}
 use mathlib.Core.List.{[], _∷_, List·Memᴰ}
 use lib.Dec.{T}

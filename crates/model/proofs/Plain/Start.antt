@@ -8,7 +8,6 @@ use lib.Dec.{T}
 use lib.ListN.{getD}
 use Rattle.model.specs.declared.House.{House}
 use Rattle.model.specs.declared.House.the-variants.{PhyNumber, PhyGroup, IllegalTable}
-use Rattle.model.specs.declared.Taken.{Taken}
 use Rattle.model.specs.declared.Taken.the-variants.{Done, NotDone}
 use Rattle.model.specs.Shelf.{phyAt, noPhy, freshPhy, startGroup, freshShelf, noShelf, startTaken, start}
 use Rattle.model.specs.Tests.{within, allBelow}

@@ -1,0 +1,43 @@
+-- House refusals of requests and reports, two faults at once among them, and what becomes of the lent buffer.
+use mathlib.Core.List.{List, [], _∷_, _++_}
+use lib.ListN.{replicate}
+use Rattle.model.specs.Cases.{Case, Lend, Look, H, Numbers, fresh}
+use Rattle.model.specs.Hex.{hex}
+use Rattle.model.specs.House.{takenNumber}
+use Rattle.model.specs.Reports.{event, linkChange}
+use Rattle.model.specs.Server.{lentAfter}
+use Rattle.model.specs.Vectors.Tools.{readBroadcasts}
+
+unfoldable pub refusals : List Case
+refusals =
+    -- H4 before H5 before H6; H5 of 1,027 bytes (case 13)
+    fresh 4 (Lend 0 32 []) (H 4)
+    ∷ fresh 4 (Lend 0 264 (readBroadcasts 0x00)) (H 4)
+    ∷ fresh 5 (Lend 1027 31 []) (H 5)
+    ∷ fresh 5 (Lend 1027 1 (readBroadcasts 0x00)) (H 5)
+    ∷ fresh 6 (Lend 1028 1 (hex "41 06 00 00")) (H 6)
+    ∷ fresh 6 (Lend 1028 1 []) (H 6)
+    -- events: H7 first, whole numbers; H8; H9 at its two limits; link changes: H7, FFh no phy
+    ∷ fresh 7
+    (Look
+    (λ s. takenNumber (event s 4 0x00 0 .taken)
+    ∷ takenNumber (event s 256 0x01 0 .taken)
+    ∷ takenNumber (event s 0 0x00 0 .taken)
+    ∷ takenNumber (event s 0 0x07 0 .taken)
+    ∷ takenNumber (event s 0 0x12D 0 .taken)
+    ∷ takenNumber (event s 0 0x2B 0xFF .taken)
+    ∷ takenNumber (event s 0 0x2B 0x100 .taken)
+    ∷ takenNumber (event s 0 0x2C 0xFFFF .taken)
+    ∷ takenNumber (event s 0 0x2C 0x10000 .taken)
+    ∷ takenNumber (event s 3 0x2D 0xFFFFFFFF .taken)
+    ∷ takenNumber (linkChange s 3 .taken)
+    ∷ takenNumber (linkChange s 0xFF .taken)
+    ∷ []))
+    (Numbers (7 ∷ 7 ∷ 8 ∷ 8 ∷ 8 ∷ 0 ∷ 9 ∷ 0 ∷ 9 ∷ 0 ∷ 0 ∷ 7 ∷ []))
+    -- a refusal leaves the lent buffer; a response leaves what is past it, and writes its zeros
+    ∷ fresh 5 (Look (λ s. lentAfter s 1 (readBroadcasts 0x00) (replicate 1027 0xEE))) (Numbers (replicate 1027 0xEE))
+    ∷ fresh 6 (Look (λ s. lentAfter s 1 [] (replicate 1028 0xEE))) (Numbers (replicate 1028 0xEE))
+    ∷ fresh 0
+    (Look (λ s. lentAfter s 1 (readBroadcasts 0x00) (replicate 1028 0xEE)))
+    (Numbers (hex "41 06 00 01 00 01 00 00" ++ replicate 1020 0xEE))
+    ∷ []

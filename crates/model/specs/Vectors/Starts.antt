@@ -1,0 +1,66 @@
+-- What a fresh shelf is, and which starts are refused.
+use Prim.Native.Nat.{ℕ}
+use mathlib.Core.List.{List, [], _∷_, _++_, map}
+use lib.ListN.{length, set}
+use Rattle.model.specs.declared.Shelf.{Shelf}
+use Rattle.model.specs.Bytes.{zeros}
+use Rattle.model.specs.Cases.{Case, Look, Numbers, fresh}
+use Rattle.model.specs.Hex.{hex}
+use Rattle.model.specs.House.{takenNumber}
+use Rattle.model.specs.Shelf.{phyAt, noShelf, start}
+use Rattle.model.specs.ShelfW.{groupsW, tableW, identifierW}
+use Rattle.model.specs.Vectors.Tools.{monitors0, counts0, link0}
+
+-- every group of the 24 places
+abbrev pub groupsOf : Shelf → List ℕ
+groupsOf s = map (λ x. x .group) (s .phys)
+
+unfoldable pub starts : List Case
+starts =
+    -- the phy number, the change count 0001h, and 0 under FFh; the identifier
+    fresh 1
+    (Look (λ s. s .number ∷ s .changes ∷ s .expander3 ∷ s .ses0 ∷ []))
+    (Numbers (4 ∷ 0x0001 ∷ 0 ∷ 0 ∷ []))
+    ∷ fresh 1 (Look (λ s. s .identifier)) (Numbers (hex "01 02 03 04 05 06 07 08"))
+    -- a phy: enabled, no Change; four error counts and four monitors, all 0; no broadcast counts
+    ∷ fresh 1 (Look link0) (Numbers (1 ∷ 0 ∷ 0x0001 ∷ []))
+    ∷ fresh 1 (Look (λ s. phyAt s 0 .errors)) (Numbers (zeros 4))
+    ∷ fresh 1 (Look (λ s. monitors0 s ++ (length (phyAt s 0 .monitors) ∷ []))) (Numbers (zeros 12 ++ (4 ∷ [])))
+    ∷ fresh 1 (Look counts0) (Numbers (0 ∷ 0 ∷ 0 ∷ 0x0001 ∷ []))
+    -- each phy has its own group, and a group past the phy number leaves no trace
+    ∷ fresh 1
+    (Look (λ s. groupsOf (start 4 (set groupsW 4 99) tableW identifierW .shelf)))
+    (Numbers (8 ∷ 8 ∷ 9 ∷ 1 ∷ zeros 20))
+    -- 1 and 24 phys, group 31
+    ∷ fresh 1
+    (Look
+    (λ s. takenNumber (start 1 groupsW tableW identifierW .taken)
+    ∷ takenNumber (start 24 groupsW tableW identifierW .taken)
+    ∷ takenNumber (start 4 (set groupsW 3 31) tableW identifierW .taken)
+    ∷ []))
+    (Numbers (0 ∷ 0 ∷ 0 ∷ []))
+    -- H1, H1, H2, H3 (row 0), H3 (row 1), H3 (not symmetric), H2 before H3, H1 before H2, and a group past the phy number is ignored
+    ∷ fresh 3
+    (Look
+    (λ s. takenNumber (start 0 groupsW tableW identifierW .taken)
+    ∷ takenNumber (start 25 groupsW tableW identifierW .taken)
+    ∷ takenNumber (start 4 (set groupsW 3 32) tableW identifierW .taken)
+    ∷ takenNumber (start 4 groupsW (set tableW 0 0x00000003) identifierW .taken)
+    ∷ takenNumber (start 4 groupsW (set tableW 1 0xFFFFFFFD) identifierW .taken)
+    ∷ takenNumber (start 4 groupsW (set tableW 8 0x00000302) identifierW .taken)
+    ∷ takenNumber (start 4 (set groupsW 0 264) (set tableW 0 0x00000003) identifierW .taken)
+    ∷ takenNumber (start 25 (set groupsW 0 264) tableW identifierW .taken)
+    ∷ takenNumber (start 4 (set groupsW 4 99) tableW identifierW .taken)
+    ∷ []))
+    (Numbers (1 ∷ 1 ∷ 2 ∷ 3 ∷ 3 ∷ 3 ∷ 2 ∷ 1 ∷ 0 ∷ []))
+    -- a refused start gives no device: no phys, in a record of the right sizes
+    ∷ fresh 3
+    (Look
+    (λ s. noShelf .number
+    ∷ length (noShelf .phys)
+    ∷ length (noShelf .table)
+    ∷ length (noShelf .identifier)
+    ∷ start 4 groupsW (set tableW 0 0x00000003) identifierW .shelf .number
+    ∷ []))
+    (Numbers (0 ∷ 24 ∷ 32 ∷ 8 ∷ 0 ∷ []))
+    ∷ []
