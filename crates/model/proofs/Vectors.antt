@@ -38,7 +38,7 @@ frames-hold =
 pub stays-hold : Holds stays
 unfolding stays computes
 stays-hold =
-    (refl, (refl, (refl, (refl, (refl, (refl, (refl, (refl, (refl, (refl, (refl, (refl, tt))))))))))))
+    (refl, (refl, (refl, (refl, (refl, (refl, (refl, (refl, (refl, (refl, (refl, (refl, (refl, (refl, (refl, (refl, (refl, tt)))))))))))))))))
 
 pub peaks-hold : Holds peaks
 unfolding peaks computes

@@ -6,9 +6,10 @@ use lib.ListN.{set}
 use Rattle.model.specs.declared.Shelf.{Shelf}
 use Rattle.model.specs.Bytes.{zeros}
 use Rattle.model.specs.Cases.{Case, Look, Numbers, on, sent}
+use Rattle.model.specs.Reply.{errorAt, monitorAt}
 use Rattle.model.specs.Runs.{Operation, Event, LinkChange, ReducedFunctionality, Ses, QueryReach}
 use Rattle.model.specs.Shelf.{phyAt}
-use Rattle.model.specs.Vectors.Tools.{control, configure, watch, monitors0, busyW}
+use Rattle.model.specs.Vectors.Tools.{control, configure, watch, monitors0, countsW, busyW}
 
 -- all numbers of phy 0, with the counts under FFh and the change count
 abbrev pub all0 : Shelf → List ℕ
@@ -40,6 +41,25 @@ abbrev pub leaves : Operation → List ℕ → List ℕ → List ℕ → List �
 leaves operation link′ errors′ monitors′ counts′ others′ =
     on 0 busyW (operation ∷ []) (Look all0) (Numbers (link′ ++ errors′ ++ monitors′ ++ counts′ ++ others′))
 
+-- of a phy: its group, the first error count, the first monitor's source, and its three broadcast counts
+abbrev pub some : Shelf → ℕ → List ℕ
+some s p =
+    phyAt s p .group
+    ∷ errorAt (phyAt s p) 0
+    ∷ monitorAt (phyAt s p) 0 .source
+    ∷ phyAt s p .change0
+    ∷ phyAt s p .expander1
+    ∷ phyAt s p .expander2
+    ∷ []
+
+-- one operation about phy 2 where every phy has counts: phy 2 afterwards, and phy 0, which stays
+abbrev pub about2 : Operation → List ℕ → Case
+about2 operation phy2 =
+    on 2 countsW
+    (operation ∷ [])
+    (Look (λ s. some s 2 ++ some s 0))
+    (Numbers (phy2 ++ (8 ∷ 0 ∷ 0x00 ∷ 0x0100 ∷ 0x0200 ∷ 0x0300 ∷ [])))
+
 unfoldable pub stays : List Case
 stays =
     -- a reach query; a peak that crosses its threshold; 02h counts, in its monitor and its error count
@@ -58,4 +78,10 @@ stays =
     -- 93h: one descriptor, and the clear
     ∷ leaves (sent 8 (configure 0x04 0x07 0x00 0 1 (watch 0x2D 0x63))) link errors (set monitors 2 0x63) counts others
     ∷ leaves (sent 8 (configure 0x02 0x07 0x01 0 0 [])) link errors (set (set monitors 1 0) 4 0) (set counts 2 0x0301) others
+    -- the phy that is named changes, and no other
+    ∷ about2 (Event 2 0x01 5) (9 ∷ 5 ∷ 0x00 ∷ 0x0102 ∷ 0x0202 ∷ 0x0302 ∷ [])
+    ∷ about2 (LinkChange 2) (9 ∷ 0 ∷ 0x00 ∷ 0x0103 ∷ 0x0202 ∷ 0x0302 ∷ [])
+    ∷ about2 (sent 9 (control 0x09 0x01 2 0x01)) (9 ∷ 0 ∷ 0x00 ∷ 0x0103 ∷ 0x0202 ∷ 0x0302 ∷ [])
+    ∷ about2 (sent 9 (control 0x09 0x01 2 0x05)) (9 ∷ 0 ∷ 0x00 ∷ 0x0102 ∷ 0x0202 ∷ 0x0302 ∷ [])
+    ∷ about2 (sent 9 (configure 0x04 0x01 0x00 2 1 (watch 0x2D 10))) (9 ∷ 0 ∷ 0x2D ∷ 0x0102 ∷ 0x0202 ∷ 0x0302 ∷ [])
     ∷ []
