@@ -49,6 +49,12 @@ frames =
     ++ hex "00 00 00 2C 00 00 00 08 00 00 00 14"
     ++ hex "00 00 00 02 00 00 00 07 00 00 00 05"
     ++ hex "00 00 00 40 00 00 00 06 00 00 00 01"))
+    -- 14h: of the phy that is asked for
+    ∷ on 0x14 busyW
+    (sent 9 (configure 0x04 0x07 0x00 2 1 (watch 0x2E 0x11)) ∷ [])
+    (Send 9 (readPhy 0x14 0x02 2))
+    (Bytes
+    (hex "41 14 00 0F 00 07 00 00 00 02 00 00 00 00 00 04" ++ hex "00 00 00 2E 00 00 00 00 00 00 00 11" ++ zeros 36))
     -- 91h: accepted; disable, disable again, link reset, link reset again; length 00h serves too
     ∷ fresh 0x91 (Send 8 (control 0x09 0x01 0 0x00)) (Bytes (hex "41 91 00 00"))
     ∷ on 0x91 shelfW (sent 8 (control 0x09 0x01 0 0x03) ∷ []) (Look link0) (Numbers (0 ∷ 1 ∷ 0x0002 ∷ []))
@@ -60,6 +66,11 @@ frames =
     (sent 8 (control 0x09 0x00 0 0x03) ∷ sent 8 (control 0x00 0x00 0 0x01) ∷ sent 1 (control 0x00 0x03 0 0x01) ∷ [])
     (Look link0)
     (Numbers (1 ∷ 3 ∷ 0x0004 ∷ []))
+    -- 91h: whether Change is originated goes by the phy that is named
+    ∷ on 0x91 shelfW
+    (sent 1 (control 0x09 0x00 0 0x03) ∷ sent 1 (control 0x09 0x00 2 0x03) ∷ [])
+    (Look (λ s. s .changes ∷ []))
+    (Numbers (0x0003 ∷ []))
     -- 91h: 00h does nothing, 05h sets the error counts to 0 and nothing else
     ∷ on 0x91 shelfW
     (watching ∷ Event 0 0x02 3 ∷ sent 8 (control 0x09 0x01 0 0x00) ∷ [])

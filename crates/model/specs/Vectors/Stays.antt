@@ -84,4 +84,19 @@ stays =
     ∷ about2 (sent 9 (control 0x09 0x01 2 0x01)) (9 ∷ 0 ∷ 0x00 ∷ 0x0103 ∷ 0x0202 ∷ 0x0302 ∷ [])
     ∷ about2 (sent 9 (control 0x09 0x01 2 0x05)) (9 ∷ 0 ∷ 0x00 ∷ 0x0102 ∷ 0x0202 ∷ 0x0302 ∷ [])
     ∷ about2 (sent 9 (configure 0x04 0x01 0x00 2 1 (watch 0x2D 10))) (9 ∷ 0 ∷ 0x2D ∷ 0x0102 ∷ 0x0202 ∷ 0x0302 ∷ [])
+    -- a disabled phy stays so, counts, and originates Change on a link change
+    ∷ on 0 busyW
+    (sent 8 (control 0x09 0x07 0 0x03)
+    ∷ Event 0 0x02 3
+    ∷ sent 8 (control 0x09 0x00 0 0x05)
+    ∷ sent 8 (configure 0x02 0x00 0x01 0 0 [])
+    ∷ LinkChange 0
+    ∷ [])
+    (Look all0)
+    (Numbers
+    (set link 1 0
+    ++ zeros 4
+    ++ set (set (set monitors 1 0) 4 0) 7 10
+    ++ (0x0102 ∷ 0x0200 ∷ 0x0301 ∷ [])
+    ++ set others 2 0x0009))
     ∷ []
