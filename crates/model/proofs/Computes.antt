@@ -8,7 +8,7 @@ use Rattle.model.specs.Reply.{deviceListed, phyListed, broadcasts, broad
 use Rattle.model.specs.Reports.{amountTooLarge, eventTaken, event, linkChange, reducedFunctionality, sesNotice}
 use Rattle.model.specs.Request.{badFrame, known, lengthRight, asked, judge, allowed, firstUnsupported}
 use Rattle.model.specs.Results.{countRight, knownOperation, decide}
-use Rattle.model.specs.Runs.{told, next, after}
+use Rattle.model.specs.Runs.{next, after}
 use Rattle.model.specs.Server.{handle, served, lentAfter}
 use Rattle.model.specs.Shelf.{freshShelf, noShelf, startTaken, start}
 use Rattle.model.specs.ShelfW.{shelfW}
@@ -44,5 +44,5 @@ unfolding controlled controlChanges setMonitor setMonitors clearMonitor anyPeak 
 writes = 0
 
 unfoldable pub computes : ℕ
-unfolding zones counts shelves requests replies writes handle served lentAfter told next after shelfW
+unfolding zones counts shelves requests replies writes handle served lentAfter next after shelfW
 computes = 0

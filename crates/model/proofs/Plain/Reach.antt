@@ -5,12 +5,15 @@ use native.Mathlib.Omega.{arith}
 use mathlib.Core.Path.{_≡_, sym}
 use mathlib.Core.Logic.{_↔_, Iff·trans}
 use mathlib.Core.List.{List, List·Memᴰ}
+use borrow.Author.Tests.{lt-ltb, le-ltb}
 use lib.Count.{ones}
 use lib.Dec.{T}
 use lib.ListN.{length, List·getD-eq-default}
 use lib.Pow.{pow-mono}
+use Rattle.model.specs.declared.House.the-variants.{SourceGroup}
+use Rattle.model.specs.declared.Reach.the-variants.{Reaches, NoReach}
 use Rattle.model.specs.declared.Shelf.{Shelf}
-use Rattle.model.specs.Reach.{reaches, reachSet, reachNumber}
+use Rattle.model.specs.Reach.{reaches, reachSet, reachNumber, reachQuery}
 use Rattle.model.specs.Shelf.{phyNumber, exists, phyAt}
 use Rattle.model.specs.Zone.{bit, row}
 use Rattle.model.proofs.Laws.Bits.{powers-lt, ones-powers, bit-powers-iff}
@@ -66,3 +69,12 @@ reach-number s g = sym (picked-length (phyNumber s) (reaches s g))
 pub reach-ones : (s : Shelf) (g : ℕ) → reachNumber s g ≡ ones (reachSet s g)
 unfolding reachSet reachNumber
 reach-ones s g = sym (ones-powers (phyNumber s) (reaches s g))
+
+-- a zone group is answered with both, and a group above 31 draws H4
+pub reach-answered : (s : Shelf) (g : ℕ) → g ≤ 31 → reachQuery s g ≡ Reaches (reachSet s g) (reachNumber s g)
+unfolding reachQuery
+reach-answered s g h = rw (le-ltb 31 g h)
+
+pub reach-refused : (s : Shelf) (g : ℕ) → 31 < g → reachQuery s g ≡ NoReach SourceGroup
+unfolding reachQuery
+reach-refused s g h = rw (lt-ltb 31 g h)

@@ -1,12 +1,12 @@
 -- House refusals of requests and reports, two faults at once among them, and what becomes of the lent buffer.
 use mathlib.Core.List.{List, [], _∷_, _++_}
 use lib.ListN.{replicate}
-use Rattle.model.specs.Cases.{Case, Lend, Look, H, Numbers, fresh}
+use Rattle.model.specs.Cases.{Case, Lend, Look, H, Numbers, fresh, ReachOf, Set}
 use Rattle.model.specs.Hex.{hex}
 use Rattle.model.specs.House.{takenNumber}
 use Rattle.model.specs.Reports.{event, linkChange}
-use Rattle.model.specs.Server.{lentAfter}
-use Rattle.model.specs.Vectors.Tools.{readBroadcasts}
+use Rattle.model.specs.Server.{served, lentAfter}
+use Rattle.model.specs.Vectors.Tools.{readBroadcasts, readPhy, control, answerNumbers}
 
 unfoldable pub refusals : List Case
 refusals =
@@ -40,4 +40,14 @@ refusals =
     ∷ fresh 0
     (Look (λ s. lentAfter s 1 (readBroadcasts 0x00) (replicate 1028 0xEE)))
     (Numbers (hex "41 06 00 01 00 01 00 00" ++ replicate 1020 0xEE))
+    -- the caller is told the length of the response, or the refusal; and the next shelf comes with it
+    ∷ fresh 0
+    (Look
+    (λ s. answerNumbers (served s 9 (readPhy 0x14 0x02 2) (replicate 1028 0xEE) .answer)
+    ++ answerNumbers (served s 8 (readPhy 0x14 0x02 2) (replicate 1028 0xEE) .answer)
+    ++ answerNumbers (served s 9 (readPhy 0x14 0x02 2) (replicate 1027 0xEE) .answer)
+    ++ (served s 8 (control 0x09 0x01 0 0x01) (replicate 1028 0xEE) .shelf .changes ∷ [])))
+    (Numbers (0 ∷ 64 ∷ 0 ∷ 4 ∷ 5 ∷ 0x0002 ∷ []))
+    -- a reach query of the last zone group
+    ∷ fresh 0 (ReachOf 31) (Set 0x00000008 1)
     ∷ []

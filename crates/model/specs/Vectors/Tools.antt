@@ -2,10 +2,13 @@
 use Prim.Native.Nat.{ℕ}
 use mathlib.Core.Bool.{true, cond}
 use mathlib.Core.List.{List, [], _∷_, _++_}
+use Rattle.model.specs.declared.Answer.{Answer}
+use Rattle.model.specs.declared.Answer.the-variants.{Response, NoResponse}
 use Rattle.model.specs.declared.Monitor.{Monitor}
 use Rattle.model.specs.declared.Shelf.{Shelf}
 use Rattle.model.specs.Bytes.{zeros}
 use Rattle.model.specs.Cases.{sent}
+use Rattle.model.specs.House.{houseNumber}
 use Rattle.model.specs.Reply.{errorAt, monitorAt}
 use Rattle.model.specs.Runs.{Operation}
 use Rattle.model.specs.Shelf.{monitor, phyWith, phyAt, put, putDevice}
@@ -35,7 +38,7 @@ configure byte3 expected byte6 p d descriptors =
 abbrev pub watch : ℕ → ℕ → List ℕ
 watch source threshold = 0x00 ∷ 0x00 ∷ 0x00 ∷ source ∷ 0x00 ∷ 0x00 ∷ 0x00 ∷ threshold ∷ []
 
--- ---- What is looked at, always of phy 0
+-- ---- What is looked at: of phy 0, and of an answer
 
 abbrev pub monitorNumbers : Monitor → List ℕ
 monitorNumbers m = m .source ∷ m .value ∷ m .threshold ∷ []
@@ -59,6 +62,11 @@ link0 s = cond (phyAt s 0 .enabled) 1 0 ∷ phyAt s 0 .change0 ∷ s .changes �
 -- the four error counts
 abbrev pub errors0 : Shelf → List ℕ
 errors0 s = errorAt (phyAt s 0) 0 ∷ errorAt (phyAt s 0) 1 ∷ errorAt (phyAt s 0) 2 ∷ errorAt (phyAt s 0) 3 ∷ []
+
+-- what the caller of a request is told: 0 and the length of the response, or the number of the house refusal
+abbrev pub answerNumbers : Answer → List ℕ
+answerNumbers (Response size) = 0 ∷ size ∷ []
+answerNumbers (NoResponse house) = houseNumber house ∷ []
 
 -- ---- Shelves
 
