@@ -18,7 +18,7 @@ easily-wrong-hold =
 pub starts-hold : Holds starts
 unfolding starts computes
 starts-hold =
-    (refl, (refl, (refl, (refl, (refl, (refl, (refl, (refl, (refl, (refl, tt))))))))))
+    (refl, (refl, (refl, (refl, (refl, (refl, (refl, (refl, (refl, (refl, (refl, tt)))))))))))
 
 pub refusals-hold : Holds refusals
 unfolding refusals computes

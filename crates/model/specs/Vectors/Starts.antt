@@ -1,5 +1,6 @@
--- What a fresh shelf is, and which starts are refused.
+-- What a fresh shelf is, the row test, and which starts are refused.
 use Prim.Native.Nat.{ℕ}
+use mathlib.Core.Bool.{cond}
 use mathlib.Core.List.{List, [], _∷_, _++_, map}
 use lib.ListN.{length, set}
 use Rattle.model.specs.declared.Shelf.{Shelf}
@@ -9,6 +10,7 @@ use Rattle.model.specs.Hex.{hex}
 use Rattle.model.specs.House.{takenNumber}
 use Rattle.model.specs.Shelf.{phyAt, noShelf, start}
 use Rattle.model.specs.ShelfW.{groupsW, tableW, identifierW}
+use Rattle.model.specs.Zone.{rowReaches}
 use Rattle.model.specs.Vectors.Tools.{monitors0, counts0, link0}
 
 -- every group of the 24 places
@@ -31,6 +33,16 @@ starts =
     ∷ fresh 1
     (Look (λ s. groupsOf (start 4 (set groupsW 4 99) tableW identifierW .shelf)))
     (Numbers (8 ∷ 8 ∷ 9 ∷ 1 ∷ zeros 20))
+    -- the row test: bits 1 and 8 of row 8, not bit 9; bit 31 of all ones; no group above 31, whatever the row
+    ∷ fresh 1
+    (Look (λ s. map (λ b. cond b 1 0)
+    (rowReaches 0x00000102 1
+    ∷ rowReaches 0x00000102 8
+    ∷ rowReaches 0x00000102 9
+    ∷ rowReaches 0xFFFFFFFF 31
+    ∷ rowReaches 0x1FFFFFFFF 32
+    ∷ [])))
+    (Numbers (1 ∷ 1 ∷ 0 ∷ 1 ∷ 0 ∷ []))
     -- 1 and 24 phys, group 31
     ∷ fresh 1
     (Look
@@ -39,14 +51,15 @@ starts =
     ∷ takenNumber (start 4 (set groupsW 3 31) tableW identifierW .taken)
     ∷ []))
     (Numbers (0 ∷ 0 ∷ 0 ∷ []))
-    -- H1, H1, H2, H3 (row 0), H3 (row 1), H3 (not symmetric), H2 before H3, H1 before H2, and a group past the phy number is ignored
+    -- H1, H1, H2, H3 (symmetric, but row 0 has bit 5 too), H3 (symmetric, but row 1 lacks bit 5), H3 (not symmetric), H2 before H3,
+    -- H1 before H2, and a group past the phy number is ignored
     ∷ fresh 3
     (Look
     (λ s. takenNumber (start 0 groupsW tableW identifierW .taken)
     ∷ takenNumber (start 25 groupsW tableW identifierW .taken)
     ∷ takenNumber (start 4 (set groupsW 3 32) tableW identifierW .taken)
-    ∷ takenNumber (start 4 groupsW (set tableW 0 0x00000003) identifierW .taken)
-    ∷ takenNumber (start 4 groupsW (set tableW 1 0xFFFFFFFD) identifierW .taken)
+    ∷ takenNumber (start 4 groupsW (set (set tableW 0 0x00000022) 5 0x00000003) identifierW .taken)
+    ∷ takenNumber (start 4 groupsW (set (set tableW 1 0xFFFFFFDF) 5 0x00000000) identifierW .taken)
     ∷ takenNumber (start 4 groupsW (set tableW 8 0x00000302) identifierW .taken)
     ∷ takenNumber (start 4 (set groupsW 0 264) (set tableW 0 0x00000003) identifierW .taken)
     ∷ takenNumber (start 25 (set groupsW 0 264) tableW identifierW .taken)
