@@ -6,6 +6,7 @@ use Rattle.model.specs.Hex.{hex}
 use Rattle.model.proofs.Computes.{computes}
 use Rattle.model.proofs.Holds.{Holds}
 
+-- eighteen answers: four of case 1, two of 2, two of 6, three of 7 (the last that no broadcast count moved), one of each other
 pub every-case-holds : Holds cases
 unfolding cases computes
 every-case-holds =

@@ -1,23 +1,24 @@
--- Document 01 as definitions. Read the files in this order: it is the document's own, with the small tests and the bytes first.
-
+-- Document 01 as definitions, in the document's order. The small words and the bytes that all use come first.
 pub mod Tests
 pub mod Bytes
--- "The shelf"
+-- "The shelf", with the reach query
 pub mod Zone
-pub mod House
 pub mod Shelf
 pub mod Reach
--- "Counting"
-pub mod Sources
-pub mod Counting
-pub mod Reports
--- "Function results" and "Frames"
-pub mod Request
+-- "House refusals": their numbers
+pub mod House
+-- "Function results": their codes, and the order in which they are judged
 pub mod Results
+-- "Frames": a request is judged and read; the responses; what the writes do; the whole of a request
+pub mod Request
 pub mod Reply
 pub mod Writes
 pub mod Server
--- "Shelf W, for checking"
+-- "Counting", with the reports
+pub mod Sources
+pub mod Counting
+pub mod Reports
+-- "Shelf W, for checking": sequences, the shelf, the cases, and further vectors
 pub mod Hex
 pub mod Runs
 pub mod ShelfW
