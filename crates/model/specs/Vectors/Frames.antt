@@ -1,5 +1,6 @@
 -- The response of each function in full, and what the writes do. The first number is the function.
 use mathlib.Core.List.{List, [], _∷_, _++_}
+use lib.ListN.{replicate}
 use Rattle.model.specs.Bytes.{zeros}
 use Rattle.model.specs.Cases.{Case, Send, Look, Bytes, Numbers, fresh, on, sent}
 use Rattle.model.specs.Hex.{hex}
@@ -112,4 +113,19 @@ frames =
     (sent 8 (configure 0x02 0x00 0x01 0 0 []) ∷ [])
     (Look counts0)
     (Numbers (0x0100 ∷ 0x0200 ∷ 0x0300 ∷ 0x0001 ∷ []))
+    -- request bytes not named are ignored: EEh stands in each of them
+    ∷ fresh 0x00
+    (Send 0 (hex "40 00 EE 00"))
+    (Bytes (hex "41 00 00 08 00 01 00 00 00 04 00 00 01 02 03 04 05 06 07 08" ++ zeros 16))
+    ∷ fresh 0x11
+    (Send 9 (hex "40 11 EE 02 EE EE EE EE EE 03 EE EE"))
+    (Bytes (hex "41 11 00 06 00 01 00 00 00 03 00 00" ++ zeros 16))
+    ∷ on 0x91 shelfW
+    (sent 8 (hex "40 91 EE 09 00 01 EE EE EE 00 03" ++ replicate 29 0xEE) ∷ [])
+    (Look link0)
+    (Numbers (0 ∷ 1 ∷ 0x0002 ∷ []))
+    ∷ on 0x93 shelfW
+    (sent 8 (hex "40 93 EE 04 00 01 00 EE EE 00 EE 01 EE EE EE 2D 01 02 03 04") ∷ [])
+    (Look monitors0)
+    (Numbers (0x2D ∷ 0 ∷ 0x01020304 ∷ zeros 9))
     ∷ []
