@@ -5,3 +5,4 @@ pub mod Bits
 pub mod Rising
 pub mod Join
 pub mod Picked
+pub mod Handled

@@ -14,6 +14,13 @@ pub record SameFrame (s t : Shelf) : Type 0 where
   pub table : t .table ≡ s .table
   pub identifier : t .identifier ≡ s .identifier
 
+-- nothing but phy p, and perhaps the change count, is another
+pub record OnlyPhy (s : Shelf) (p : ℕ) (t : Shelf) : Type 0 where
+  pub frame : SameFrame s t
+  pub others : (q : ℕ) → (q ≡ p → ⊥) → phyAt t q ≡ phyAt s q
+  pub expander3 : t .expander3 ≡ s .expander3
+  pub ses0 : t .ses0 ≡ s .ses0
+
 module _ (s : Shelf) (p : ℕ) (x : Phy) (count : ℕ) where
   pub put-frame : SameFrame s (put s p x count)
   put-frame = record { number = refl; table = refl; identifier = refl }
@@ -29,6 +36,9 @@ module _ (s : Shelf) (p : ℕ) (x : Phy) (count : ℕ) where
 
   pub put-device-counts : (put s p x count .expander3 ≡ s .expander3) × (put s p x count .ses0 ≡ s .ses0)
   put-device-counts = (refl, refl)
+
+  pub put-only : OnlyPhy s p (put s p x count)
+  put-only = record { frame = put-frame; others = put-other; expander3 = refl; ses0 = refl }
 
 module _ (s : Shelf) (expander3 ses0 : ℕ) where
   pub device-frame : SameFrame s (putDevice s expander3 ses0)
