@@ -1,5 +1,6 @@
 -- A proof that says `unfolding computes` may run every definition of document 01 on numbers: the names are listed here, once.
 use Prim.Native.Nat.{ℕ}
+use Rattle.model.specs.CrossedOut.{aboutPhy, linkResetOrDisable, crossedOut, remains}
 use Rattle.model.specs.Counting.{originate, addWrapping, addSaturating, counted, crosses, originateCrossings}
 use Rattle.model.specs.Counting.{addError, eventOn, changeOn}
 use Rattle.model.specs.Reach.{reachSet, reachNumber, reachQuery}
@@ -8,7 +9,7 @@ use Rattle.model.specs.Reply.{deviceListed, phyListed, broadcasts, broad
 use Rattle.model.specs.Reports.{amountTooLarge, eventTaken, event, linkChange, reducedFunctionality, sesNotice}
 use Rattle.model.specs.Request.{badFrame, known, lengthRight, asked, judge, allowed, firstUnsupported}
 use Rattle.model.specs.Results.{countRight, knownOperation, decide}
-use Rattle.model.specs.Runs.{next, after}
+use Rattle.model.specs.Runs.{next, after, told, answers}
 use Rattle.model.specs.Server.{handle, served, lentAfter}
 use Rattle.model.specs.Shelf.{freshShelf, noShelf, startTaken, start}
 use Rattle.model.specs.ShelfW.{shelfW}
@@ -43,6 +44,10 @@ unfoldable pub writes : ℕ
 unfolding controlled controlChanges setMonitor setMonitors clearMonitor anyPeak configured effect
 writes = 0
 
+unfoldable pub runs : ℕ
+unfolding next after told answers aboutPhy linkResetOrDisable crossedOut remains
+runs = 0
+
 unfoldable pub computes : ℕ
-unfolding zones counts shelves requests replies writes handle served lentAfter next after shelfW
+unfolding zones counts shelves requests replies writes runs handle served lentAfter shelfW
 computes = 0

@@ -6,3 +6,4 @@ pub mod Rising
 pub mod Join
 pub mod Picked
 pub mod Handled
+pub mod Inner

@@ -9,3 +9,5 @@ pub mod Vectors
 pub mod Laws
 -- each test of specs/ once more, in plain logic
 pub mod Plain
+-- the three demands
+pub mod Demands

@@ -10,3 +10,4 @@ pub mod Reports
 pub mod Request
 pub mod Results
 pub mod Reply
+pub mod CrossedOut

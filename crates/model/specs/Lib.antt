@@ -18,9 +18,11 @@ pub mod Server
 pub mod Sources
 pub mod Counting
 pub mod Reports
--- "Shelf W, for checking": sequences, the shelf, the cases, and further vectors
-pub mod Hex
+-- "What each promise has to rule out", for demand 3: runs, and what is crossed out of them
 pub mod Runs
+pub mod CrossedOut
+-- "Shelf W, for checking": the reader of hexadecimal, the shelf, the cases, and further vectors
+pub mod Hex
 pub mod ShelfW
 pub mod Cases
 pub mod Vectors

@@ -2,18 +2,21 @@
 -- Assumes nothing.
 use Prim.Native.Nat.{ℕ}
 use mathlib.Core.Path.{_≡_, refl}
-use mathlib.Core.Bool.{Bool, true, false}
+use mathlib.Core.Bool.{Bool, true, false, cond, false≢true}
 use mathlib.Core.List.{List}
 use lib.Dec.{ltb}
 use Rattle.model.specs.declared.FunctionResult.{FunctionResult}
 use Rattle.model.specs.declared.FunctionResult.the-variants.{UnknownSmpFunction, InvalidRequestFrameLength}
+use Rattle.model.specs.declared.House.{House}
 use Rattle.model.specs.declared.House.the-variants.{SourceGroup, ShortBuffer, BadFrame}
 use Rattle.model.specs.declared.Judged.the-variants.{Asked, NoFrame, Fails}
 use Rattle.model.specs.declared.Shelf.{Shelf}
 use Rattle.model.specs.Request.{badFrame, functionOf, known, lengthRight, asked, judge}
-use Rattle.model.specs.Results.{decide}
-use Rattle.model.specs.Server.{Handled, refuse, conclude, handleJudged, handle}
+use Rattle.model.specs.Reply.{respond}
+use Rattle.model.specs.Results.{accepted, decide}
+use Rattle.model.specs.Server.{Handled, Sends, refuse, fail, conclude, handleJudged, handle}
 use Rattle.model.specs.Tests.{check, given}
+use Rattle.model.specs.Writes.{effect}
 
 -- the result of a request, 01h and 03h among them
 unfoldable pub verdict : Shelf → ℕ → List ℕ → FunctionResult
@@ -21,6 +24,10 @@ verdict s g frame =
     check (known (functionOf frame)) UnknownSmpFunction
     (check (lengthRight frame) InvalidRequestFrameLength
     (decide s g frame (asked frame)))
+
+-- an accepted request: its response and its full effect
+abbrev pub done : Shelf → ℕ → List ℕ → Handled
+done s g frame = record { reply = Sends (respond s g (asked frame)); shelf = effect s frame (asked frame) }
 
 -- a request that draws no house refusal
 abbrev pub concluded : Shelf → ℕ → List ℕ → Handled
@@ -55,3 +62,54 @@ pub handled : (s : Shelf) (g : ℕ) (frame : List ℕ) (room : ℕ)
     (concluded s g frame)))
 unfolding handle
 handled s g frame room = rw (judged s g frame)
+
+-- ---- What holds of a refusal and of a request that draws none holds of every request. Of two shelves at once, and of one.
+
+module _ (P : Handled → Handled → Type 0) (s t : Shelf) (g : ℕ) (frame : List ℕ) where
+  pub both-handled : (room : ℕ) → ((house : House) → P (refuse s house) (refuse t house))
+      → P (concluded s g frame) (concluded t g frame) → P (handle s g frame room) (handle t g frame room)
+  both-handled room refused rest =
+      rw (handled s g frame room, handled t g frame room) (go (ltb 31 g) (ltb room 1028) (badFrame frame))
+    where
+      go : (a b c : Bool)
+          → P
+          (given a (refuse s SourceGroup) (given b (refuse s ShortBuffer) (given c (refuse s BadFrame) (concluded s g frame))))
+          (given a (refuse t SourceGroup) (given b (refuse t ShortBuffer) (given c (refuse t BadFrame) (concluded t g frame))))
+      go true b c = refused SourceGroup
+      go false true c = refused ShortBuffer
+      go false false true = refused BadFrame
+      go false false false = rest
+
+  -- the same result on both: accepted, or failed
+  pub both-concluded : verdict s g frame ≡ verdict t g frame
+      → (accepted (verdict t g frame) ≡ true → P (done s g frame) (done t g frame))
+      → (accepted (verdict t g frame) ≡ false → P (fail s frame (verdict t g frame)) (fail t frame (verdict t g frame)))
+      → P (concluded s g frame) (concluded t g frame)
+  both-concluded same passed failed = rw same (go (accepted (verdict t g frame)) refl)
+    where
+      go : (b : Bool) → accepted (verdict t g frame) ≡ b
+          → P (cond b (done s g frame) (fail s frame (verdict t g frame))) (cond b (done t g frame) (fail t frame (verdict t g frame)))
+      go true e = passed e
+      go false e = failed e
+
+module _ (P : Handled → Type 0) (s : Shelf) (g : ℕ) (frame : List ℕ) where
+  pub every-handled : (room : ℕ) → ((house : House) → P (refuse s house)) → P (concluded s g frame)
+      → P (handle s g frame room)
+  every-handled room refused rest = both-handled (λ x y. P x) s s g frame room refused rest
+
+  pub every-concluded : (accepted (verdict s g frame) ≡ true → P (done s g frame))
+      → (accepted (verdict s g frame) ≡ false → P (fail s frame (verdict s g frame))) → P (concluded s g frame)
+  every-concluded passed failed = both-concluded (λ x y. P x) s s g frame refl passed failed
+
+-- what is accepted was of a known function and a right length, and passed what the shelf decides
+pub accepted-decided : (s : Shelf) (g : ℕ) (frame : List ℕ) → accepted (verdict s g frame) ≡ true
+    → (known (functionOf frame) ≡ true) × (lengthRight frame ≡ true) × (accepted (decide s g frame (asked frame)) ≡ true)
+unfolding verdict
+accepted-decided s g frame = go (known (functionOf frame)) (lengthRight frame)
+  where
+    go : (known′ right : Bool)
+        → accepted (check known′ UnknownSmpFunction (check right InvalidRequestFrameLength (decide s g frame (asked frame)))) ≡ true
+        → (known′ ≡ true) × (right ≡ true) × (accepted (decide s g frame (asked frame)) ≡ true)
+    go true true e = (refl, refl, e)
+    go true false e = absurd (false≢true e)
+    go false right e = absurd (false≢true e)

@@ -7,7 +7,7 @@ use mathlib.Core.Logic.{_↔_, _⊎_, inl, inr, ⊎-elim, Iff·trans, Iff·symm,
 use mathlib.Core.Bool.{Bool, true, false, not, _&&_, _||_, Bool·beq, or-assoc, true≢false, false≢true}
 use mathlib.Core.List.{List, [], _∷_, List·Memᴰ, List·Memᴰ·head, List·Memᴰ·tail, List·Memᴰ·cases-cons}
 use mathlib.Core.List.{List·Memᴰ·not-nil}
-use lib.Dec.{T, leb, ltb, eqb, leb→le, le→leb, ltb→lt, lt→ltb, eqb→eq, eqb-refl}
+use lib.Dec.{T, leb, ltb, eqb, T-not, not-T, leb→le, le→leb, ltb→lt, lt→ltb, eqb→eq, eqb-refl}
 use Rattle.model.specs.Tests.{check, within, oneOf, allBelow}
 
 -- ---- Bool
@@ -23,6 +23,19 @@ or-iff false b = (λ t. inr t, elim [ inl t ↦ absurd t | inr t ↦ t ])
 pub not-not-iff : (a : Bool) → (T (not a) → ⊥) ↔ T a
 not-not-iff true = (λ f. tt, λ t e. e)
 not-not-iff false = (λ f. f tt, λ t e. t)
+
+-- a test that holds is true, and one that doesn't is false
+pub is-true : (a : Bool) → T a → a ≡ true
+is-true true t = refl
+is-true false t = absurd t
+
+pub is-false : (a : Bool) → (T a → ⊥) → a ≡ false
+is-false true no-a = absurd (no-a tt)
+is-false false no-a = refl
+
+-- the denial of a test, from what the test says
+pub denied-iff : (a : Bool) {A : Type 0} → T a ↔ A → T (not a) ↔ (A → ⊥)
+denied-iff a f = (λ t x. T-not a t (f .1 x), λ no-a. not-T a (λ t. no-a (f .0 t)))
 
 pub same-iff : (a b : Bool) → T (Bool·beq a b) ↔ (a ≡ b)
 same-iff true true = (λ t. refl, λ e. tt)
@@ -77,6 +90,15 @@ pub oneOf-iff : (xs : List ℕ) (n : ℕ) → T (oneOf xs n) ↔ List·Memᴰ n 
 oneOf-iff [] n = (λ t. absurd t, λ m. absurd (List·Memᴰ·not-nil m))
 oneOf-iff (x ∷ xs) n =
     Iff·trans (either-iff (eqb n x) (oneOf xs n) (eqb-iff n x) (oneOf-iff xs n)) (Iff·symm (member-iff n x xs))
+
+-- what follows from each of a list follows from being one of them
+abbrev pub Each : ℕ → List ℕ → Type 0 → Type 0
+Each n [] P = Unit {0}
+Each n (x ∷ xs) P = (n ≡ x → P) × Each n xs P
+
+pub by-each : (n : ℕ) (xs : List ℕ) {P : Type 0} → List·Memᴰ n xs → Each n xs P → P
+by-each n [] m each = absurd (List·Memᴰ·not-nil m)
+by-each n (x ∷ xs) m each = ⊎-elim (each .0) (λ m′. by-each n xs m′ (each .1)) (member-iff n x xs .0 m)
 
 -- ---- all of 0 to n - 1
 

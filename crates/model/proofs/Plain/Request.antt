@@ -7,23 +7,25 @@ use mathlib.Core.Path.{_≡_, refl, subst}
 use mathlib.Core.Logic.{_↔_, _⊎_, ⊎-elim}
 use mathlib.Core.Bool.{Bool, true, false, not, cond, _||_, or-assoc}
 use mathlib.Core.List.{List, [], _∷_, List·Memᴰ}
-use lib.Dec.{T, ltb, eqb, T-not, not-T}
+use lib.Dec.{T, ltb, eqb}
 use lib.ListN.{length}
-use Rattle.model.specs.Bytes.{byte}
-use Rattle.model.specs.Request.{badFrame, functionOf, known, shaped, lengthRight, descriptorSource, allowed}
+use Rattle.model.specs.declared.Request.the-variants.{ReportGeneral, ReportManufacturer, ReportBroadcast}
+use Rattle.model.specs.declared.Request.the-variants.{ReportPhyErrorLog, ReportPhyEvent, PhyControl}
+use Rattle.model.specs.declared.Request.the-variants.{ConfigurePhyEvent}
+use Rattle.model.specs.Bytes.{byte, word}
+use Rattle.model.specs.Request.{badFrame, functionOf, known, shaped, lengthRight, asked, descriptorSource, allowed}
 use Rattle.model.specs.Request.{firstUnsupported}
 use Rattle.model.specs.Sources.{supported}
 use Rattle.model.specs.Tests.{oneOf}
-use Rattle.model.proofs.Laws.Tests.{all-three-iff, either-iff, ltb-iff, eqb-iff, oneOf-iff}
+use Rattle.model.specs.Zone.{bit}
+use Rattle.model.proofs.Laws.Tests.{denied-iff, all-three-iff, either-iff, ltb-iff, eqb-iff, oneOf-iff}
 
 -- H6: under four bytes, or the first is not 40h
 pub bad-frame : (frame : List ℕ) → T (badFrame frame) ↔ ((length frame < 4) ⊎ (byte frame 0 ≡ 0x40 → ⊥))
 unfolding badFrame
 bad-frame frame =
-    either-iff (ltb (length frame) 4) (not (eqb (byte frame 0) 0x40)) (ltb-iff (length frame) 4) (
-      λ t e. T-not (eqb (byte frame 0) 0x40) t (eqb-iff (byte frame 0) 0x40 .1 e),
-      λ f. not-T (eqb (byte frame 0) 0x40) (λ t. f (eqb-iff (byte frame 0) 0x40 .0 t)),
-    )
+    either-iff (ltb (length frame) 4) (not (eqb (byte frame 0) 0x40)) (ltb-iff (length frame) 4)
+    (denied-iff (eqb (byte frame 0) 0x40) (eqb-iff (byte frame 0) 0x40))
 
 -- not 01h: one of the seven functions
 pub known-iff : (function : ℕ)
@@ -83,6 +85,38 @@ length-right frame =
     (shaped-iff frame 0x14 12 (0x02 ∷ []))
     (shaped-iff frame 0x91 40 (0x09 ∷ 0x00 ∷ []))
     (shaped-iff frame 0x93 (12 + 8 * byte frame 11) ((2 + 2 * byte frame 11) ∷ []))
+
+-- ---- what is asked, by the function
+
+module _ (frame : List ℕ) where
+  pub asked-00 : functionOf frame ≡ 0x00 → asked frame ≡ ReportGeneral
+  unfolding asked
+  asked-00 e = rw e
+
+  pub asked-01 : functionOf frame ≡ 0x01 → asked frame ≡ ReportManufacturer
+  unfolding asked
+  asked-01 e = rw e
+
+  pub asked-06 : functionOf frame ≡ 0x06 → asked frame ≡ ReportBroadcast (byte frame 2)
+  unfolding asked
+  asked-06 e = rw e
+
+  pub asked-11 : functionOf frame ≡ 0x11 → asked frame ≡ ReportPhyErrorLog (byte frame 9)
+  unfolding asked
+  asked-11 e = rw e
+
+  pub asked-14 : functionOf frame ≡ 0x14 → asked frame ≡ ReportPhyEvent (byte frame 9)
+  unfolding asked
+  asked-14 e = rw e
+
+  pub asked-91 : functionOf frame ≡ 0x91 → asked frame ≡ PhyControl (word frame 4) (byte frame 9) (byte frame 10)
+  unfolding asked
+  asked-91 e = rw e
+
+  pub asked-93 : functionOf frame ≡ 0x93
+      → asked frame ≡ ConfigurePhyEvent (word frame 4) (bit (byte frame 6) 0) (byte frame 9) (byte frame 11)
+  unfolding asked
+  asked-93 e = rw e
 
 -- ---- the descriptors of a 93h
 

@@ -1,0 +1,5 @@
+-- What the request demands, as theorems over the definitions.
+pub mod Looks
+pub mod Steps
+pub mod Unseen
+pub mod Isolation

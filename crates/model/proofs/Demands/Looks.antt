@@ -1,0 +1,143 @@
+-- What a shelf looks like to a source group. Assumes nothing.
+use Prim.Native.Nat.{ℕ, zero, suc}
+use mathlib.Core.Path.{_≡_, refl, sym, ap, ap₂, fun-ext, _∙_}
+use mathlib.Core.Bool.{Bool, true, false, cond}
+use mathlib.Core.List.{List, [], _∷_, map, map-map}
+use lib.Dec.{T}
+use lib.ListN.{getD, set, List·getD-map}
+use lib.Seq.{set-getD}
+use Rattle.model.specs.declared.Phy.{Phy}
+use Rattle.model.specs.declared.Shelf.{Shelf}
+use Rattle.model.specs.Reach.{reaches}
+use Rattle.model.specs.Shelf.{noPhy, phyAt, shelfWith, put}
+use Rattle.model.specs.Zone.{row, rowReaches}
+use Rattle.model.proofs.Laws.Inner.{Inner}
+
+-- A phy as a row sees it: whole where the row reaches it. Where it does not, its numbers are not seen; its group and whether it is
+-- enabled stay, since a disable moves the change count, which all may read, only if the phy was enabled.
+abbrev pub seen : ℕ → Phy → Phy
+seen r x =
+    record {
+      group = x .group;
+      enabled = x .enabled;
+      errors = cond (rowReaches r (x .group)) (x .errors) [];
+      monitors = cond (rowReaches r (x .group)) (x .monitors) [];
+      change0 = cond (rowReaches r (x .group)) (x .change0) 0;
+      expander1 = cond (rowReaches r (x .group)) (x .expander1) 0;
+      expander2 = cond (rowReaches r (x .group)) (x .expander2) 0;
+    }
+
+-- the shelf as group g sees it
+abbrev pub looks : ℕ → Shelf → Shelf
+looks g s = shelfWith s (map (seen (row (s .table) g)) (s .phys)) (s .changes) (s .expander3) (s .ses0)
+
+-- ---- one phy
+
+-- what is left of a phy that is out of reach
+abbrev hidden : ℕ → Bool → Phy
+hidden group enabled =
+    record { group = group; enabled = enabled; errors = []; monitors = []; change0 = 0; expander1 = 0; expander2 = 0 }
+
+module _ (r : ℕ) where
+  pub seen-reached : (x : Phy) → rowReaches r (x .group) ≡ true → seen r x ≡ x
+  seen-reached x e = rw e
+
+  seen-hidden : (x : Phy) → rowReaches r (x .group) ≡ false → seen r x ≡ hidden (x .group) (x .enabled)
+  seen-hidden x e = rw e
+
+  pub seen-none : seen r noPhy ≡ noPhy
+  seen-none = go (rowReaches r 0)
+    where
+      go : (b : Bool)
+          → record {
+            group = 0;
+            enabled = false;
+            errors = cond b [] [];
+            monitors = cond b [] [];
+            change0 = cond b 0 0;
+            expander1 = cond b 0 0;
+            expander2 = cond b 0 0;
+          } ≡ noPhy
+      go true = refl
+      go false = refl
+
+  -- how such a change looks depends on how the phy looked alone
+  pub seen-change : (f : Phy → Phy) (enables : Bool → Bool) → Inner f enables → (x : Phy)
+      → seen r (f (seen r x)) ≡ seen r (f x)
+  seen-change f enables inner x = go (rowReaches r (x .group)) refl
+    where
+      unseen : (y : Phy) → y .group ≡ x .group → y .enabled ≡ x .enabled → rowReaches r (x .group) ≡ false
+          → seen r (f y) ≡ hidden (x .group) (enables (x .enabled))
+      unseen y same still out =
+          let group : f y .group ≡ x .group = inner .group y ∙ same in
+          let enabled : f y .enabled ≡ enables (x .enabled) = inner .enabled y ∙ ap enables still in
+          seen-hidden (f y) (ap (rowReaches r) group ∙ out) ∙ ap₂ hidden group enabled
+
+      go : (b : Bool) → rowReaches r (x .group) ≡ b → seen r (f (seen r x)) ≡ seen r (f x)
+      go true e = ap (λ y. seen r (f y)) (seen-reached x e)
+      go false e = unseen (seen r x) refl refl e ∙ sym (unseen x refl refl e)
+
+  -- and one that leaves it enabled or not as it was is not seen out of reach
+  pub seen-stays : (f : Phy → Phy) → Inner f (λ b. b) → (x : Phy) → rowReaches r (x .group) ≡ false
+      → seen r (f x) ≡ seen r x
+  seen-stays f inner x out =
+      seen-hidden (f x) (ap (rowReaches r) (inner .group x) ∙ out)
+      ∙ ap₂ hidden (inner .group x) (inner .enabled x)
+      ∙ sym (seen-hidden x out)
+
+-- ---- the shelf
+
+map-set : {A B : Type 0} (f : A → B) (l : List A) (i : ℕ) (a : A) → map f (set l i a) ≡ set (map f l) i (f a)
+map-set f [] i a = refl
+map-set f (x ∷ l) zero a = refl
+map-set f (x ∷ l) (suc i) a = ap (λ t. f x ∷ t) (map-set f l i a)
+
+module _ (g : ℕ) (s : Shelf) where
+  pub looks-phy : (p : ℕ) → phyAt (looks g s) p ≡ seen (row (s .table) g) (phyAt s p)
+  looks-phy p =
+      ap (λ d. getD (map (seen (row (s .table) g)) (s .phys)) p d) (sym (seen-none (row (s .table) g)))
+      ∙ List·getD-map (seen (row (s .table) g)) (s .phys) p noPhy
+
+  -- who reaches what is all to be seen
+  pub looks-reaches : (h p : ℕ) → reaches (looks g s) h p ≡ reaches s h p
+  looks-reaches h p = ap (λ x. rowReaches (row (s .table) h) (x .group)) (looks-phy p)
+
+  -- a phy that g reaches is seen whole
+  pub looks-reached : (p : ℕ) → reaches s g p ≡ true → phyAt (looks g s) p ≡ phyAt s p
+  looks-reached p e = looks-phy p ∙ seen-reached (row (s .table) g) (phyAt s p) e
+
+  -- to look twice shows no less
+  pub looks-twice : looks g (looks g s) ≡ looks g s
+  looks-twice =
+      ap (λ phys. shelfWith s phys (s .changes) (s .expander3) (s .ses0))
+      (map-map (seen (row (s .table) g)) (seen (row (s .table) g)) (s .phys)
+      ∙ ap (λ f. map f (s .phys)) (fun-ext (λ x. seen-change (row (s .table) g) (λ y. y) (λ b. b) same x)))
+    where
+      same : Inner (λ y. y) (λ b. b)
+      same = record { group = λ x. refl; enabled = λ x. refl }
+
+  looks-put : (p : ℕ) (x : Phy) (count : ℕ)
+      → looks g (put s p x count) ≡ put (looks g s) p (seen (row (s .table) g) x) count
+  looks-put p x count =
+      ap (λ phys. shelfWith s phys count (s .expander3) (s .ses0)) (map-set (seen (row (s .table) g)) (s .phys) p x)
+
+  -- A change of a phy out of reach that leaves the change count, and the phy enabled or not as it was, is not seen.
+  pub looks-stays : (p : ℕ) (f : Phy → Phy) → Inner f (λ b. b) → reaches s g p ≡ false
+      → looks g (put s p (f (phyAt s p)) (s .changes)) ≡ looks g s
+  looks-stays p f inner out =
+      looks-put p (f (phyAt s p)) (s .changes)
+      ∙ ap (λ x. put (looks g s) p x (s .changes)) (seen-stays (row (s .table) g) f inner (phyAt s p) out ∙ sym (looks-phy p))
+      ∙ ap (λ phys. shelfWith s phys (s .changes) (s .expander3) (s .ses0)) (set-getD (looks g s .phys) p noPhy)
+
+-- How a shelf looks after a change of phy p depends on how it looked before alone.
+pub looks-change : (g : ℕ) (s : Shelf) (p : ℕ) (f : Phy → Phy) (enables : Bool → Bool) (count : Phy → ℕ)
+    → Inner f enables → ((x : Phy) → count (seen (row (s .table) g) x) ≡ count x)
+    → looks g (put (looks g s) p (f (phyAt (looks g s) p)) (count (phyAt (looks g s) p)))
+    ≡ looks g (put s p (f (phyAt s p)) (count (phyAt s p)))
+looks-change g s p f enables count inner counts =
+    let r : ℕ = row (s .table) g in
+    ap (λ x. looks g (put (looks g s) p (f x) (count x))) (looks-phy g s p)
+    ∙ looks-put g (looks g s) p (f (seen r (phyAt s p))) (count (seen r (phyAt s p)))
+    ∙ ap (λ t. put t p (seen r (f (seen r (phyAt s p)))) (count (seen r (phyAt s p)))) (looks-twice g s)
+    ∙ ap₂ (λ x n. put (looks g s) p x n) (seen-change r f enables inner (phyAt s p)) (counts (phyAt s p))
+    ∙ sym (looks-put g s p (f (phyAt s p)) (count (phyAt s p)))

@@ -1,0 +1,185 @@
+-- One operation, as a source group sees it: what it is told, and how the shelf looks afterwards, depend on how the shelf looked before
+-- alone. Assumes nothing.
+use Prim.Native.Nat.{ℕ}
+use mathlib.Core.Path.{_≡_, refl, ap, ap₂, fun-ext, _∙_}
+use mathlib.Core.Bool.{Bool, true, false, not, cond}
+use mathlib.Core.List.{List, [], _∷_, _++_}
+use borrow.Author.Tests.{eqb-true}
+use lib.Dec.{ltb, eqb}
+use lib.ListN.{length}
+use Rattle.model.specs.declared.FunctionResult.{FunctionResult}
+use Rattle.model.specs.declared.FunctionResult.the-variants.{Accepted, UnknownSmpFunction, InvalidRequestFrameLength}
+use Rattle.model.specs.declared.FunctionResult.the-variants.{PhyDoesNotExist, PhyVacant}
+use Rattle.model.specs.declared.House.the-variants.{NoSuchPhy}
+use Rattle.model.specs.declared.Phy.{Phy}
+use Rattle.model.specs.declared.Request.{Request}
+use Rattle.model.specs.declared.Request.the-variants.{ReportGeneral, ReportManufacturer, ReportBroadcast}
+use Rattle.model.specs.declared.Request.the-variants.{ReportPhyErrorLog, ReportPhyEvent, PhyControl}
+use Rattle.model.specs.declared.Request.the-variants.{ConfigurePhyEvent}
+use Rattle.model.specs.declared.Shelf.{Shelf}
+use Rattle.model.specs.declared.Taken.{Taken}
+use Rattle.model.specs.declared.Taken.the-variants.{Done, NotDone}
+use Rattle.model.specs.Counting.{originate, eventOn, changeOn}
+use Rattle.model.specs.Reach.{reaches, reachSet, reachNumber, reachQuery}
+use Rattle.model.specs.Reply.{deviceListed, phyListed, broadcasts, broadcastFrame, reportGeneral, reportManufacturer}
+use Rattle.model.specs.Reply.{reportBroadcast, reportPhyErrorLog, reportPhyEvent, respond}
+use Rattle.model.specs.Reports.{eventTaken, event, linkChange, reducedFunctionality, sesNotice}
+use Rattle.model.specs.Request.{badFrame, functionOf, known, lengthRight, asked}
+use Rattle.model.specs.Results.{accepted, countRight, checkRead, decide}
+use Rattle.model.specs.Runs.{Operation, Ask, Event, LinkChange, ReducedFunctionality, Ses, QueryReach, next, told}
+use Rattle.model.specs.Runs.{Answered, Shown}
+use Rattle.model.specs.Server.{Handled, Sends, handle, lent, answer, served, lentAfter}
+use Rattle.model.specs.Shelf.{phyNumber, exists, phyAt, shelfWith, outcome}
+use Rattle.model.specs.Tests.{check, given, joinBelow}
+use Rattle.model.specs.Writes.{withoutErrors, controlled, controlChanges, setMonitors, configured, effect}
+use Rattle.model.proofs.Demands.Looks.{looks, looks-reaches, looks-reached, looks-twice}
+use Rattle.model.proofs.Demands.Looks.{looks-change}
+use Rattle.model.proofs.Laws.Inner.{enablesBy, event-inner, change-inner, configured-inner, controlled-inner}
+use Rattle.model.proofs.Laws.Handled.{verdict, both-handled, both-concluded, accepted-decided}
+
+-- ---- judging
+
+module _ (g : ℕ) (s : Shelf) where
+  looks-decides : (h : ℕ) (frame : List ℕ) (request : Request)
+      → decide (looks g s) h frame request ≡ decide s h frame request
+  unfolding decide countRight
+  looks-decides h frame ReportGeneral = refl
+  looks-decides h frame ReportManufacturer = refl
+  looks-decides h frame (ReportBroadcast kind) = refl
+  looks-decides h frame (ReportPhyErrorLog p) = rw (looks-reaches g s h p)
+  looks-decides h frame (ReportPhyEvent p) = rw (looks-reaches g s h p)
+  looks-decides h frame (PhyControl expected p operation) = rw (looks-reaches g s h p)
+  looks-decides h frame (ConfigurePhyEvent expected clear p d) = rw (looks-reaches g s h p)
+
+  looks-verdict : (h : ℕ) (frame : List ℕ) → verdict (looks g s) h frame ≡ verdict s h frame
+  unfolding verdict
+  looks-verdict h frame = rw (looks-decides h frame (asked frame))
+
+  -- ---- writes and reports
+
+  looks-effect : (frame : List ℕ) (request : Request)
+      → looks g (effect (looks g s) frame request) ≡ looks g (effect s frame request)
+  unfolding effect controlChanges
+  looks-effect frame ReportGeneral = looks-twice g s
+  looks-effect frame ReportManufacturer = looks-twice g s
+  looks-effect frame (ReportBroadcast kind) = looks-twice g s
+  looks-effect frame (ReportPhyErrorLog p) = looks-twice g s
+  looks-effect frame (ReportPhyEvent p) = looks-twice g s
+  looks-effect frame (PhyControl expected p operation) =
+      looks-change g s p (controlled operation) (enablesBy operation)
+      (λ x. cond (controlChanges operation x) (originate (s .changes)) (s .changes))
+      (controlled-inner operation)
+      (λ x. refl)
+  looks-effect frame (ConfigurePhyEvent expected clear p d) =
+      looks-change g s p (configured frame d clear) (λ b. b) (λ x. s .changes) (configured-inner frame d clear) (λ x. refl)
+
+  -- ---- responses to g itself
+
+  -- an accepted read is about a phy that its source reaches
+  read-reached : (p : ℕ) → accepted (checkRead s g p) ≡ true → reaches s g p ≡ true
+  read-reached p = go (exists s p) (reaches s g p)
+    where
+      go : (there reached : Bool)
+          → accepted (check there PhyDoesNotExist (check reached PhyVacant Accepted)) ≡ true → reached ≡ true
+      go true true e = refl
+      go true false e = e
+      go false true e = refl
+      go false false e = e
+
+  looks-broadcasts : (kind : ℕ) → broadcasts (looks g s) g kind ≡ broadcasts s g kind
+  unfolding broadcasts deviceListed
+  looks-broadcasts kind = ap (λ of. deviceListed kind s ++ joinBelow (phyNumber s) of) (fun-ext each)
+    where
+      each : (p : ℕ) → cond (reaches (looks g s) g p) (phyListed kind p (phyAt (looks g s) p)) []
+          ≡ cond (reaches s g p) (phyListed kind p (phyAt s p)) []
+      each p = rw (looks-reaches g s g p) (go (reaches s g p) refl)
+        where
+          go : (b : Bool) → reaches s g p ≡ b
+              → cond b (phyListed kind p (phyAt (looks g s) p)) [] ≡ cond b (phyListed kind p (phyAt s p)) []
+          go true e = ap (phyListed kind p) (looks-reached g s p e)
+          go false e = refl
+
+  looks-respond : (frame : List ℕ) (request : Request) → accepted (decide s g frame request) ≡ true
+      → respond (looks g s) g request ≡ respond s g request
+  unfolding respond decide reportGeneral reportManufacturer reportBroadcast reportPhyErrorLog reportPhyEvent
+  looks-respond frame ReportGeneral e = refl
+  looks-respond frame ReportManufacturer e = refl
+  looks-respond frame (ReportBroadcast kind) e = ap (broadcastFrame s kind) (looks-broadcasts kind)
+  looks-respond frame (ReportPhyErrorLog p) e = ap (reportPhyErrorLog s p) (looks-reached g s p (read-reached p e))
+  looks-respond frame (ReportPhyEvent p) e = ap (reportPhyEvent s p) (looks-reached g s p (read-reached p e))
+  looks-respond frame (PhyControl expected p operation) e = refl
+  looks-respond frame (ConfigurePhyEvent expected clear p d) e = refl
+
+  -- ---- requests
+
+  looks-handle : (h : ℕ) (frame : List ℕ) (room : ℕ)
+      → looks g (handle (looks g s) h frame room .shelf) ≡ looks g (handle s h frame room .shelf)
+  looks-handle h frame room =
+      both-handled alike (looks g s) s h frame room (λ house. looks-twice g s)
+      (both-concluded alike (looks g s) s h frame (looks-verdict h frame)
+      (λ e. looks-effect frame (asked frame))
+      (λ e. looks-twice g s))
+    where
+      alike : Handled → Handled → Type 0
+      alike x y = looks g (x .shelf) ≡ looks g (y .shelf)
+
+  looks-reply : (frame : List ℕ) (room : ℕ)
+      → handle (looks g s) g frame room .reply ≡ handle s g frame room .reply
+  looks-reply frame room =
+      both-handled alike (looks g s) s g frame room (λ house. refl)
+      (both-concluded alike (looks g s) s g frame (looks-verdict g frame)
+      (λ e. ap Sends (looks-respond frame (asked frame) (accepted-decided s g frame e .2)))
+      (λ e. refl))
+    where
+      alike : Handled → Handled → Type 0
+      alike x y = x .reply ≡ y .reply
+
+  looks-query : reachQuery (looks g s) g ≡ reachQuery s g
+  unfolding reachQuery reachSet reachNumber
+  looks-query = simp (looks-reaches g s g)
+
+  -- ---- every operation
+
+  looks-outcome : (taken : Taken) (new new′ : Shelf) → looks g new ≡ looks g new′
+      → looks g (outcome taken (looks g s) new .shelf) ≡ looks g (outcome taken s new′ .shelf)
+  looks-outcome Done new new′ e = e
+  looks-outcome (NotDone house) new new′ e = looks-twice g s
+
+  -- how the shelf looks afterwards
+  pub looks-next : (operation : Operation) → looks g (next (looks g s) operation) ≡ looks g (next s operation)
+  unfolding next event eventTaken linkChange reducedFunctionality sesNotice
+  looks-next (Ask h frame out) = looks-handle h frame (length out)
+  looks-next (Event p source amount) =
+      looks-outcome (eventTaken s p source amount) _ _
+      (looks-change g s p (eventOn source amount) (λ b. b) (λ x. s .changes) (event-inner source amount) (λ x. refl))
+  looks-next (LinkChange p) =
+      looks-outcome (given (not (exists s p)) (NotDone NoSuchPhy) Done) _ _
+      (looks-change g s p (λ x. changeOn (x .enabled) x) (λ b. b) (λ x. originate (s .changes)) (change-inner (λ b. b)) (λ x. refl))
+  looks-next ReducedFunctionality =
+      ap (λ t. shelfWith t (t .phys) (t .changes) (originate (s .expander3)) (t .ses0)) (looks-twice g s)
+  looks-next Ses =
+      ap (λ t. shelfWith t (t .phys) (t .changes) (t .expander3) (originate (s .ses0))) (looks-twice g s)
+  looks-next (QueryReach h) = looks-twice g s
+
+  -- what g is told
+  pub looks-told : (operation : Operation) → told g (looks g s) operation ≡ told g s operation
+  unfolding told served lentAfter
+  looks-told (Ask h frame out) = go (eqb h g) refl
+    where
+      go : (b : Bool) → eqb h g ≡ b
+          → cond b (Answered (served (looks g s) h frame out .answer) (lentAfter (looks g s) h frame out) ∷ []) []
+          ≡ cond b (Answered (served s h frame out .answer) (lentAfter s h frame out) ∷ []) []
+      go true e =
+          rw (eqb-true h g e)
+          (ap (λ reply. Answered (answer reply) (lent out reply) ∷ []) (looks-reply frame (length out)))
+      go false e = refl
+  looks-told (Event p source amount) = refl
+  looks-told (LinkChange p) = refl
+  looks-told ReducedFunctionality = refl
+  looks-told Ses = refl
+  looks-told (QueryReach h) = go (eqb h g) refl
+    where
+      go : (b : Bool) → eqb h g ≡ b
+          → cond b (Shown (reachQuery (looks g s) h) ∷ []) [] ≡ cond b (Shown (reachQuery s h) ∷ []) []
+      go true e = rw (eqb-true h g e) (ap (λ reach. Shown reach ∷ []) looks-query)
+      go false e = refl

@@ -1,0 +1,121 @@
+-- An operation that is crossed out for a group tells it nothing, and the shelf looks to it as before. And what is crossed out is the
+-- same all through a run. Assumes nothing.
+use Prim.Native.Nat.{ℕ}
+use mathlib.Core.Path.{_≡_, refl, ap, _∙_}
+use mathlib.Core.Logic.{⊎-elim}
+use mathlib.Core.Bool.{Bool, true, false, not, cond, _&&_}
+use mathlib.Core.List.{List, [], _∷_, List·Memᴰ·head, List·Memᴰ·tail}
+use borrow.Author.Tests.{ne-eqb}
+use lib.Dec.{T, leb, eqb, T-not, not-T}
+use lib.ListN.{length}
+use Rattle.model.specs.declared.Phy.{Phy}
+use Rattle.model.specs.declared.Shelf.{Shelf}
+use Rattle.model.specs.declared.Taken.{Taken}
+use Rattle.model.specs.declared.Taken.the-variants.{Done, NotDone}
+use Rattle.model.specs.Bytes.{byte}
+use Rattle.model.specs.Counting.{originate, eventOn}
+use Rattle.model.specs.CrossedOut.{aboutPhy, linkResetOrDisable, crossedOut}
+use Rattle.model.specs.Reach.{reaches}
+use Rattle.model.specs.Reports.{eventTaken, event}
+use Rattle.model.specs.Request.{functionOf, asked}
+use Rattle.model.specs.Runs.{Operation, Ask, Event, LinkChange, ReducedFunctionality, Ses, QueryReach, next, told}
+use Rattle.model.specs.Shelf.{exists, phyAt, put, outcome}
+use Rattle.model.specs.Writes.{controlled, controlChanges, configured, effect}
+use Rattle.model.specs.Zone.{bit}
+use Rattle.model.proofs.Demands.Looks.{looks, looks-stays}
+use Rattle.model.proofs.Laws.Handled.{every-handled, every-concluded}
+use Rattle.model.proofs.Laws.Inner.{Inner, SameZones, event-inner, configured-inner, controlled-inner}
+use Rattle.model.proofs.Laws.Tests.{is-false, by-each}
+use Rattle.model.proofs.Plain.CrossedOut.{CrossedRequest, crossed-request-iff, crossed-event-iff}
+use Rattle.model.proofs.Plain.Request.{asked-11, asked-14, asked-91, asked-93}
+
+-- ---- a request
+
+-- a 91h that is neither link reset nor disable leaves the change count, and the phy enabled or not as it was
+module _ (operation : ℕ) (not-reset : eqb operation 0x01 ≡ false) (not-disable : eqb operation 0x03 ≡ false) where
+  quiet-inner : Inner (controlled operation) (λ b. b)
+  quiet-inner =
+      record {
+        group = controlled-inner operation .group;
+        enabled = λ x. rw (not-reset, not-disable) at (controlled-inner operation .enabled x);
+      }
+
+  quiet-count : (x : Phy) → controlChanges operation x ≡ false
+  unfolding controlChanges
+  quiet-count x = rw (not-reset, not-disable)
+
+module _ (g : ℕ) (s : Shelf) where
+  -- the effect of a crossed-out request, by its function
+  unseen-effect : (h : ℕ) (frame : List ℕ) → CrossedRequest g s h frame
+      → looks g (effect s frame (asked frame)) ≡ looks g s
+  unfolding effect
+  unseen-effect h frame crossed =
+      by-each (functionOf frame) (0x11 ∷ 0x14 ∷ 0x91 ∷ 0x93 ∷ []) (crossed .about .0)
+      (λ e. rw (asked-11 frame e), (λ e. rw (asked-14 frame e), (control, (configure, tt))))
+    where
+      out : reaches s g (byte frame 9) ≡ false
+      out = is-false (reaches s g (byte frame 9)) (crossed .unreached)
+
+      control : functionOf frame ≡ 0x91 → looks g (effect s frame (asked frame)) ≡ looks g s
+      control e =
+          let no-reset : eqb (byte frame 10) 0x01 ≡ false =
+          ne-eqb (byte frame 10) 0x01 (λ same. crossed .no-link-control (crossed .about, e, List·Memᴰ·head same)) in
+          let no-disable : eqb (byte frame 10) 0x03 ≡ false =
+          ne-eqb (byte frame 10) 0x03
+          (λ same. crossed .no-link-control (crossed .about, e, List·Memᴰ·tail (List·Memᴰ·head same))) in
+          rw (asked-91 frame e, quiet-count (byte frame 10) no-reset no-disable (phyAt s (byte frame 9)))
+          (looks-stays g s (byte frame 9) (controlled (byte frame 10)) (quiet-inner (byte frame 10) no-reset no-disable) out)
+
+      configure : functionOf frame ≡ 0x93 → looks g (effect s frame (asked frame)) ≡ looks g s
+      configure e =
+          rw (asked-93 frame e)
+          (looks-stays g s (byte frame 9) (configured frame (byte frame 11) (bit (byte frame 6) 0))
+          (configured-inner frame (byte frame 11) (bit (byte frame 6) 0))
+          out)
+
+  -- ---- every crossed-out operation
+
+  outcome-unseen : (taken : Taken) (new : Shelf) → looks g new ≡ looks g s
+      → looks g (outcome taken s new .shelf) ≡ looks g s
+  outcome-unseen Done new e = e
+  outcome-unseen (NotDone house) new e = refl
+
+  pub crossed-unseen : (operation : Operation) → T (crossedOut g s operation)
+      → looks g (next s operation) ≡ looks g s
+  unfolding next event crossedOut
+  crossed-unseen (Ask h frame out) t =
+      every-handled (λ x. looks g (x .shelf) ≡ looks g s) s h frame (length out) (λ house. refl)
+      (every-concluded (λ x. looks g (x .shelf) ≡ looks g s) s h frame
+      (λ e. unseen-effect h frame (crossed-request-iff g s h frame out .0 t))
+      (λ e. refl))
+  crossed-unseen (Event p source amount) t =
+      outcome-unseen (eventTaken s p source amount) _
+      (looks-stays g s p (eventOn source amount) (event-inner source amount)
+      (is-false (reaches s g p) (crossed-event-iff g s p source amount .0 t .1)))
+  crossed-unseen (LinkChange p) t = absurd t
+  crossed-unseen ReducedFunctionality t = absurd t
+  crossed-unseen Ses t = absurd t
+  crossed-unseen (QueryReach h) t = absurd t
+
+  pub crossed-untold : (operation : Operation) → T (crossedOut g s operation) → told g s operation ≡ []
+  unfolding told crossedOut
+  crossed-untold (Ask h frame out) t =
+      rw (ne-eqb h g (crossed-request-iff g s h frame out .0 t .of-another))
+  crossed-untold (Event p source amount) t = refl
+  crossed-untold (LinkChange p) t = refl
+  crossed-untold ReducedFunctionality t = refl
+  crossed-untold Ses t = refl
+  crossed-untold (QueryReach h) t = absurd t
+
+-- ---- what is crossed out is the same all through a run
+
+pub crossed-zones : (g : ℕ) (s t : Shelf) (operation : Operation) → SameZones s t
+    → crossedOut g t operation ≡ crossedOut g s operation
+unfolding crossedOut aboutPhy linkResetOrDisable
+crossed-zones g s t (Ask h frame out) same =
+    rw (same .frame .number, same .frame .table, same .groups (byte frame 9))
+crossed-zones g s t (Event p source amount) same = rw (same .frame .number, same .frame .table, same .groups p)
+crossed-zones g s t (LinkChange p) same = refl
+crossed-zones g s t ReducedFunctionality same = refl
+crossed-zones g s t Ses same = refl
+crossed-zones g s t (QueryReach h) same = refl
