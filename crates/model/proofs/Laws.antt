@@ -7,3 +7,4 @@ pub mod Join
 pub mod Picked
 pub mod Handled
 pub mod Inner
+pub mod Lowest

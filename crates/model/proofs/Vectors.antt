@@ -1,5 +1,7 @@
 -- The further cases hold of the definitions too, by computation.
 use mathlib.Core.Path.{refl}
+use mathlib.Core.Bool.{true, false}
+use Rattle.model.specs.Vectors.CrossedOut.{crossed, stay}
 use Rattle.model.specs.Vectors.EasilyWrong.{easilyWrong}
 use Rattle.model.specs.Vectors.Frames.{frames}
 use Rattle.model.specs.Vectors.Peaks.{peaks}
@@ -8,7 +10,7 @@ use Rattle.model.specs.Vectors.Results.{results}
 use Rattle.model.specs.Vectors.Starts.{starts}
 use Rattle.model.specs.Vectors.Stays.{stays}
 use Rattle.model.proofs.Computes.{computes}
-use Rattle.model.proofs.Holds.{Holds}
+use Rattle.model.proofs.Holds.{Holds, Fate}
 
 pub easily-wrong-hold : Holds easilyWrong
 unfolding easilyWrong computes
@@ -44,3 +46,14 @@ pub peaks-hold : Holds peaks
 unfolding peaks computes
 peaks-hold =
     (refl, (refl, (refl, (refl, (refl, (refl, tt))))))
+
+-- demand 3's crossing-out
+pub crossed-hold : Fate true crossed
+unfolding crossed computes
+crossed-hold =
+    (refl, (refl, (refl, (refl, (refl, (refl, (refl, (refl, (refl, (refl, (refl, (refl, (refl, (refl, (refl, (refl, (refl, (refl, (refl, (refl, (refl, (refl, tt))))))))))))))))))))))
+
+pub stay-hold : Fate false stay
+unfolding stay computes
+stay-hold =
+    (refl, (refl, (refl, (refl, (refl, (refl, (refl, (refl, (refl, (refl, (refl, (refl, (refl, (refl, (refl, (refl, (refl, (refl, (refl, (refl, (refl, (refl, (refl, (refl, (refl, (refl, (refl, (refl, (refl, (refl, (refl, (refl, (refl, (refl, tt))))))))))))))))))))))))))))))))))

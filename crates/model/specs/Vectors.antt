@@ -8,3 +8,4 @@ pub mod Results
 pub mod Frames
 pub mod Stays
 pub mod Peaks
+pub mod CrossedOut

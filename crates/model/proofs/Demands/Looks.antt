@@ -1,17 +1,19 @@
 -- What a shelf looks like to a source group. Assumes nothing.
 use Prim.Native.Nat.{ℕ, zero, suc}
 use mathlib.Core.Path.{_≡_, refl, sym, ap, ap₂, fun-ext, _∙_}
+use mathlib.Core.Logic.{_↔_}
 use mathlib.Core.Bool.{Bool, true, false, cond}
 use mathlib.Core.List.{List, [], _∷_, map, map-map}
 use lib.Dec.{T}
-use lib.ListN.{getD, set, List·getD-map}
-use lib.Seq.{set-getD}
+use lib.ListN.{length, getD, set, length-map, List·getD-map}
+use lib.Seq.{set-getD, ext-getD}
 use Rattle.model.specs.declared.Phy.{Phy}
 use Rattle.model.specs.declared.Shelf.{Shelf}
 use Rattle.model.specs.Reach.{reaches}
 use Rattle.model.specs.Shelf.{noPhy, phyAt, shelfWith, put}
 use Rattle.model.specs.Zone.{row, rowReaches}
 use Rattle.model.proofs.Laws.Inner.{Inner}
+use Rattle.model.proofs.Laws.Tests.{is-true}
 
 -- A phy as a row sees it: whole where the row reaches it. Where it does not, its numbers are not seen; its group and whether it is
 -- enabled stay, since a disable moves the change count, which all may read, only if the phy was enabled.
@@ -141,3 +143,75 @@ looks-change g s p f enables count inner counts =
     ∙ ap (λ t. put t p (seen r (f (seen r (phyAt s p)))) (count (seen r (phyAt s p)))) (looks-twice g s)
     ∙ ap₂ (λ x n. put (looks g s) p x n) (seen-change r f enables inner (phyAt s p)) (counts (phyAt s p))
     ∙ sym (looks-put g s p (f (phyAt s p)) (count (phyAt s p)))
+
+-- ---- The same with named fields: two shelves look the same to g.
+pub record LooksSame (g : ℕ) (s t : Shelf) : Type 0 where
+  pub number : s .number ≡ t .number
+  pub table : s .table ≡ t .table
+  pub identifier : s .identifier ≡ t .identifier
+  pub changes : s .changes ≡ t .changes
+  pub expander3 : s .expander3 ≡ t .expander3
+  pub ses0 : s .ses0 ≡ t .ses0
+  -- as many phys, each in the same group, and enabled in both or in neither
+  pub size : length (s .phys) ≡ length (t .phys)
+  pub groups : (p : ℕ) → phyAt s p .group ≡ phyAt t p .group
+  pub enabled : (p : ℕ) → phyAt s p .enabled ≡ phyAt t p .enabled
+  -- and each phy that g reaches is the same in all its numbers
+  pub reached : (p : ℕ) → T (reaches s g p) → phyAt s p ≡ phyAt t p
+
+module _ (g : ℕ) (s t : Shelf) where
+  same-fields : looks g s ≡ looks g t → LooksSame g s t
+  same-fields e =
+      record {
+        number = ap (λ u. u .number) e;
+        table = ap (λ u. u .table) e;
+        identifier = ap (λ u. u .identifier) e;
+        changes = ap (λ u. u .changes) e;
+        expander3 = ap (λ u. u .expander3) e;
+        ses0 = ap (λ u. u .ses0) e;
+        size = sym (length-map (s .phys) (seen (row (s .table) g))) ∙ ap (λ u. length (u .phys)) e ∙ length-map (t .phys) (seen (row (t .table) g));
+        groups = λ p. ap (λ x. x .group) (phys p);
+        enabled = λ p. ap (λ x. x .enabled) (phys p);
+        reached = λ p r.
+            let here : reaches s g p ≡ true = is-true (reaches s g p) r in
+            let there : reaches t g p ≡ true = sym (looks-reaches g t g p) ∙ ap (λ u. reaches u g p) (sym e) ∙ looks-reaches g s g p ∙ here in
+            sym (looks-reached g s p here) ∙ ap (λ u. phyAt u p) e ∙ looks-reached g t p there;
+      }
+    where
+      phys : (p : ℕ) → seen (row (s .table) g) (phyAt s p) ≡ seen (row (t .table) g) (phyAt t p)
+      phys p = sym (looks-phy g s p) ∙ ap (λ u. phyAt u p) e ∙ looks-phy g t p
+
+  fields-same : LooksSame g s t → looks g s ≡ looks g t
+  fields-same e = λ i.
+      record {
+        number = e .number i;
+        phys = phys i;
+        table = e .table i;
+        identifier = e .identifier i;
+        changes = e .changes i;
+        expander3 = e .expander3 i;
+        ses0 = e .ses0 i;
+      }
+    where
+      reach : (p : ℕ) → reaches t g p ≡ reaches s g p
+      reach p = sym (ap₂ (λ table x. rowReaches (row table g) x) (e .table) (e .groups p))
+
+      each : (p : ℕ) → (b : Bool) → reaches s g p ≡ b
+          → seen (row (s .table) g) (phyAt s p) ≡ seen (row (t .table) g) (phyAt t p)
+      each p true here =
+          seen-reached (row (s .table) g) (phyAt s p) here
+          ∙ e .reached p (rw here tt)
+          ∙ sym (seen-reached (row (t .table) g) (phyAt t p) (reach p ∙ here))
+      each p false out =
+          seen-hidden (row (s .table) g) (phyAt s p) out
+          ∙ ap₂ hidden (e .groups p) (e .enabled p)
+          ∙ sym (seen-hidden (row (t .table) g) (phyAt t p) (reach p ∙ out))
+
+      phys : looks g s .phys ≡ looks g t .phys
+      phys =
+          ext-getD noPhy (looks g s .phys) (looks g t .phys)
+          (length-map (s .phys) (seen (row (s .table) g)) ∙ e .size ∙ sym (length-map (t .phys) (seen (row (t .table) g))))
+          (λ p h. looks-phy g s p ∙ each p (reaches s g p) refl ∙ sym (looks-phy g t p))
+
+  pub looks-same : (looks g s ≡ looks g t) ↔ LooksSame g s t
+  looks-same = (same-fields, fields-same)

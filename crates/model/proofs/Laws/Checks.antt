@@ -1,5 +1,5 @@
 -- When none of a row of house refusals is given. Starts and event reports both have three. Assumes nothing.
-use Prim.Native.Nat.{ℕ}
+use Prim.Native.Nat.{ℕ, _≤_}
 use native.Mathlib.Omega.{arith}
 use mathlib.Core.Path.{_≡_, refl}
 use mathlib.Core.Logic.{_↔_, Iff·trans}
@@ -9,6 +9,7 @@ use Rattle.model.specs.declared.House.{House}
 use Rattle.model.specs.declared.Shelf.{Shelf}
 use Rattle.model.specs.declared.Taken.{Taken}
 use Rattle.model.specs.declared.Taken.the-variants.{Done, NotDone}
+use Rattle.model.specs.House.{takenNumber}
 use Rattle.model.specs.Shelf.{outcome}
 use Rattle.model.specs.Tests.{given}
 use Rattle.model.proofs.Laws.Tests.{check-iff, not-not-iff}
@@ -48,3 +49,8 @@ unless-iff a f = Iff·trans (not-not-iff a) f
 pub outcome-taken : (taken : Taken) (old new : Shelf) → outcome taken old new .taken ≡ taken
 outcome-taken Done old new = refl
 outcome-taken (NotDone house) old new = refl
+
+-- and a refusal leaves the old shelf
+pub outcome-stays : (taken : Taken) (old new : Shelf) → 1 ≤ takenNumber taken → outcome taken old new .shelf ≡ old
+outcome-stays Done old new refused = absurd (omega arith)
+outcome-stays (NotDone house) old new refused = refl

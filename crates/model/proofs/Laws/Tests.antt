@@ -1,13 +1,13 @@
 -- Laws of the small words of `specs/Tests`: when each holds, in plain logic. Assumes nothing.
 use Prim.Native.Nat.{ℕ, zero, suc, _≤_, _<_}
-use native.Mathlib.Nat.{not-suc-le-zero, le-of-suc-le-suc, eq-or-lt-of-le}
+use native.Mathlib.Nat.{not-suc-le-zero, not-le-of-lt, le-of-suc-le-suc, eq-or-lt-of-le}
 use native.Mathlib.Omega.{arith}
 use mathlib.Core.Path.{_≡_, refl, subst⁻¹}
 use mathlib.Core.Logic.{_↔_, _⊎_, inl, inr, ⊎-elim, Iff·trans, Iff·symm, Iff·and}
-use mathlib.Core.Bool.{Bool, true, false, not, _&&_, _||_, Bool·beq, or-assoc, true≢false, false≢true}
+use mathlib.Core.Bool.{Bool, true, false, not, cond, _&&_, _||_, Bool·beq, or-assoc, true≢false, false≢true}
 use mathlib.Core.List.{List, [], _∷_, List·Memᴰ, List·Memᴰ·head, List·Memᴰ·tail, List·Memᴰ·cases-cons}
 use mathlib.Core.List.{List·Memᴰ·not-nil}
-use lib.Dec.{T, leb, ltb, eqb, T-not, not-T, leb→le, le→leb, ltb→lt, lt→ltb, eqb→eq, eqb-refl}
+use lib.Dec.{T, leb, ltb, eqb, T-not, not-T, nleb→lt, leb→le, le→leb, ltb→lt, lt→ltb, eqb→eq, eqb-refl}
 use Rattle.model.specs.Tests.{check, within, oneOf, allBelow}
 
 -- ---- Bool
@@ -23,6 +23,11 @@ or-iff false b = (λ t. inr t, elim [ inl t ↦ absurd t | inr t ↦ t ])
 pub not-not-iff : (a : Bool) → (T (not a) → ⊥) ↔ T a
 not-not-iff true = (λ f. tt, λ t e. e)
 not-not-iff false = (λ f. f tt, λ t e. t)
+
+pub not-both-iff : (a b : Bool) → T (not (a && b)) ↔ (T a → T b → ⊥)
+not-both-iff true true = (λ t. absurd t, λ f. f tt tt)
+not-both-iff true false = (λ t a b. b, λ f. tt)
+not-both-iff false b = (λ t a b′. a, λ f. tt)
 
 -- a test that holds is true, and one that doesn't is false
 pub is-true : (a : Bool) → T a → a ≡ true
@@ -67,6 +72,11 @@ pub one-of-three-iff : (a b c : Bool) {A B C : Type 0}
     → T a ↔ A → T b ↔ B → T c ↔ C → T (a || b || c) ↔ (A ⊎ B ⊎ C)
 one-of-three-iff a b c f g h = rw or-assoc (either-iff a (b || c) f (either-iff b c g h))
 
+-- what a test chooses: the one thing where it holds, and the other where it does not
+pub cond-iff : {A : Type 0} (b : Bool) (z x y : A) → (z ≡ cond b x y) ↔ ((T b → z ≡ x) × ((T b → ⊥) → z ≡ y))
+cond-iff true z x y = (λ e. (λ t. e, λ f. absurd (f tt)), λ h. h .0 tt)
+cond-iff false z x y = (λ e. (λ t. absurd t, λ f. e), λ h. h .1 (λ t. t))
+
 -- ---- numbers
 
 pub leb-iff : (m n : ℕ) → T (leb m n) ↔ (m ≤ n)
@@ -80,6 +90,10 @@ eqb-iff m n = (eqb→eq m n, λ e. subst⁻¹ (λ (k : ℕ). T (eqb k n)) e (eqb
 
 pub within-iff : (low high n : ℕ) → T (within low high n) ↔ ((low ≤ n) × (n ≤ high))
 within-iff low high n = both-iff (leb low n) (leb n high) (leb-iff low n) (leb-iff n high)
+
+-- not at most is above
+pub above-iff : (m n : ℕ) → T (not (leb m n)) ↔ (n < m)
+above-iff m n = (nleb→lt m n, λ h. not-T (leb m n) (λ t. not-le-of-lt h (leb→le m n t)))
 
 -- ---- one of a list
 
@@ -118,6 +132,25 @@ allBelow-iff (suc n) test = (
       and-iff (allBelow n test) (test n) .1 (allBelow-iff n test .1 (λ i h. f i (omega arith)), f n (omega arith)),
 )
 
+-- not all of them pass exactly if there is one that doesn't
+find-below : (n : ℕ) (test : ℕ → Bool) → T (not (allBelow n test)) → (i : ℕ) × (i < n) × T (not (test i))
+unfolding allBelow
+find-below zero test t = absurd t
+find-below (suc n) test t = last (allBelow n test) (find-below n test) t
+  where
+    last : (all : Bool) → (T (not all) → (i : ℕ) × (i < n) × T (not (test i))) → T (not (all && test n))
+        → (i : ℕ) × (i < suc n) × T (not (test i))
+    last true earlier none = (n, omega arith, none)
+    last false earlier none = let (i, below, fails) = earlier tt in (i, omega arith, fails)
+
+pub some-below-iff : (n : ℕ) (test : ℕ → Bool)
+    → T (not (allBelow n test))
+    ↔ ((i : ℕ) × (i < n) × T (not (test i)))
+some-below-iff n test = (
+  find-below n test,
+  λ h. not-T (allBelow n test) (λ t. T-not (test (h .0)) (h .2) (allBelow-iff n test .0 t (h .0) (h .1))),
+)
+
 -- ---- the first failure decides
 
 -- a check with something good behind it comes out good exactly if its test holds and the rest comes out good
@@ -125,3 +158,9 @@ pub check-iff : {A : Type 0} (b : Bool) (failure rest good : A) → (failure ≡
     → (check b failure rest ≡ good) ↔ (T b × (rest ≡ good))
 check-iff true failure rest good bad = (λ e. (tt, e), λ h. h .1)
 check-iff false failure rest good bad = (λ e. absurd (bad e), λ h. absurd (h .0))
+
+-- what is made of the outcome of a check
+pub check-map : {A B : Type 0} (f : A → B) (b : Bool) (failure rest : A)
+    → f (check b failure rest) ≡ check b (f failure) (f rest)
+check-map f true failure rest = refl
+check-map f false failure rest = refl

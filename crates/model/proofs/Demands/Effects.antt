@@ -1,0 +1,367 @@
+-- What an accepted write does to the shelf, number by number, in plain logic: a 91h to its phy, a 93h to its phy's monitors.
+-- Every other phy, and every number that is not named, is as it was. And what is said here settles the shelf: no two shelves
+-- are left by one write. Assumes nothing.
+use Prim.Native.Nat.{ℕ, zero, suc, _+_, _≤_, _<_, suc-le-suc}
+use native.Mathlib.Nat.{zero-add, zero-lt-suc, not-suc-le-zero, le-of-suc-le-suc}
+use native.Mathlib.Omega.{arith}
+use mathlib.Core.Path.{_≡_, refl, sym, ap, _∙_}
+use mathlib.Core.Logic.{_↔_, _⊎_, inl, inr, Iff·trans}
+use mathlib.Core.Bool.{Bool, true, false, not, cond, _&&_}
+use mathlib.Core.List.{List, [], _∷_, map, List·Memᴰ}
+use borrow.Author.Tests.{ltb-true, ltb-false, lt-ltb, le-ltb, eqb-true, eqb-false, eq-eqb}
+use lib.Dec.{T, ltb, eqb}
+use lib.ListN.{length, getD, replicate, length-set, length-map, List·getD-map}
+use lib.Seq.{ext-getD, getD-set-same, set-getD}
+use Rattle.model.specs.declared.Monitor.{Monitor}
+use Rattle.model.specs.declared.Phy.{Phy}
+use Rattle.model.specs.declared.Request.the-variants.{PhyControl, ConfigurePhyEvent}
+use Rattle.model.specs.declared.Shelf.{Shelf}
+use Rattle.model.specs.Bytes.{byte}
+use Rattle.model.specs.Counting.{originate, withValue, changeOn}
+use Rattle.model.specs.Reply.{monitorAt}
+use Rattle.model.specs.Request.{descriptorSource, descriptorThreshold}
+use Rattle.model.specs.Shelf.{noPhy, phyAt, monitor, phyWith, shelfWith, freshMonitor}
+use Rattle.model.specs.Sources.{peak}
+use Rattle.model.specs.Writes.{controlled, controlChanges, setMonitor, setMonitors, withMonitors, setOn}
+use Rattle.model.specs.Writes.{clearMonitor, anyPeak, clearOn, configured, effect}
+use Rattle.model.specs.Zone.{bit}
+use Rattle.model.proofs.Laws.Tests.{and-iff, not-both-iff, both-iff, either-iff, cond-iff, eqb-iff, by-each}
+use Rattle.model.proofs.Plain.Shelf.{OnlyPhy, put-only}
+
+-- Two shelves that differ from s in phy p and in the change count at most, and agree in these, are one.
+same-shelf : {s t u : Shelf} {p : ℕ} → OnlyPhy s p t → OnlyPhy s p u
+    → length (t .phys) ≡ length (s .phys) → length (u .phys) ≡ length (s .phys)
+    → phyAt t p ≡ phyAt u p → t .changes ≡ u .changes → t ≡ u
+same-shelf {s} {t} {u} {p} a b m n same count =
+    let phys : t .phys ≡ u .phys = ext-getD noPhy (t .phys) (u .phys) (m ∙ sym n) (λ q h. at q (eqb q p) refl) in
+    let whole : (r : Shelf) → r ≡ shelfWith r (r .phys) (r .changes) (r .expander3) (r .ses0) = λ r. refl in
+    cc (whole t, whole u)
+  where
+    at : (q : ℕ) (here : Bool) → eqb q p ≡ here → phyAt t q ≡ phyAt u q
+    at q true e = rw (eqb-true q p e) same
+    at q false e = a .others q (eqb-false q p e) ∙ sym (b .others q (eqb-false q p e))
+
+-- ---- 91h
+
+-- phy p is x, and the change count is n
+abbrev pub Has : Shelf → ℕ → Phy → ℕ → Type 0
+Has t p x n = (phyAt t p ≡ x) × (t .changes ≡ n)
+
+-- a phy that has originated Change, enabled or not, with all else as it was
+abbrev pub changeOriginated : Phy → Bool → Phy
+changeOriginated x enabled =
+    phyWith x enabled (x .errors) (x .monitors) (originate (x .change0)) (x .expander1) (x .expander2)
+
+-- a phy with its four error counts at 0, and all else as it was
+abbrev pub errorless : Phy → Phy
+errorless x = phyWith x (x .enabled) (replicate 4 0) (x .monitors) (x .change0) (x .expander1) (x .expander2)
+
+-- "00h none; 01h link reset enables the phy and originates Change; 03h disable originates Change only if the phy was enabled;
+-- 05h sets the four error counts to 0." Change also moves the change count. There are as many phys as before, and no other phy,
+-- nor any number under FFh, is another.
+pub record Controlled (s : Shelf) (p operation : ℕ) (t : Shelf) : Type 0 where
+  pub size : length (t .phys) ≡ length (s .phys)
+  pub only : OnlyPhy s p t
+  pub none : operation ≡ 0x00 → t ≡ s
+  pub link-reset : operation ≡ 0x01 → Has t p (changeOriginated (phyAt s p) true) (originate (s .changes))
+  pub disable : operation ≡ 0x03 → phyAt s p .enabled ≡ true
+      → Has t p (changeOriginated (phyAt s p) false) (originate (s .changes))
+  pub disabled-already : operation ≡ 0x03 → phyAt s p .enabled ≡ false → t ≡ s
+  pub clear-errors : operation ≡ 0x05 → Has t p (errorless (phyAt s p)) (s .changes)
+
+-- an accepted 91h, of a phy that there is, does exactly this
+pub controlled-effect : (s : Shelf) (frame : List ℕ) (expected p operation : ℕ) → p < length (s .phys)
+    → Controlled s p operation (effect s frame (PhyControl expected p operation))
+unfolding effect controlled controlChanges changeOn
+controlled-effect s frame expected p operation h =
+    record {
+      size = length-set (s .phys) p _;
+      only = put-only s p _ _;
+      none = λ e. rw (e, set-getD);
+      link-reset = λ e. rw e (getD-set-same (s .phys) p _ noPhy h, refl);
+      disable = λ e on. rw (e, on) (getD-set-same (s .phys) p _ noPhy h, refl);
+      disabled-already = λ e off. rw (e, off, set-getD);
+      clear-errors = λ e. rw e (getD-set-same (s .phys) p _ noPhy h, refl);
+    }
+
+-- no two shelves are left by one of the four operations
+pub controlled-settled : {s t u : Shelf} {p operation : ℕ} → List·Memᴰ operation (0x00 ∷ 0x01 ∷ 0x03 ∷ 0x05 ∷ [])
+    → Controlled s p operation t → Controlled s p operation u → t ≡ u
+controlled-settled {s} {t} {u} {p} {operation} known a b =
+    by-each operation (0x00 ∷ 0x01 ∷ 0x03 ∷ 0x05 ∷ []) known (
+      λ e. a .none e ∙ sym (b .none e),
+      (
+        λ e. alike (a .link-reset e) (b .link-reset e),
+        (
+          λ e. disabled e (phyAt s p .enabled) refl,
+          (λ e. alike (a .clear-errors e) (b .clear-errors e), tt),
+        ),
+      ),
+    )
+  where
+    alike : {x : Phy} {n : ℕ} → Has t p x n → Has u p x n → t ≡ u
+    alike l r = same-shelf (a .only) (b .only) (a .size) (b .size) (cc) (cc)
+
+    disabled : operation ≡ 0x03 → (on : Bool) → phyAt s p .enabled ≡ on → t ≡ u
+    disabled e true on = alike (a .disable e on) (b .disable e on)
+    disabled e false off = a .disabled-already e off ∙ sym (b .disabled-already e off)
+
+-- ---- 93h
+
+-- "bit 0 of byte 6 clears peaks"
+abbrev pub clears : List ℕ → Bool
+clears frame = bit (byte frame 6) 0
+
+-- "Descriptor i sets monitor i; a changed source sets the value to 0, the same source keeps it. Then, if clearing, each of the
+-- phy's monitors on a peak source goes to 0." The number of descriptors is in byte 11.
+pub record MonitorConfigured (frame : List ℕ) (i : ℕ) (old new : Monitor) : Type 0 where
+  pub named-source : i < byte frame 11 → new .source ≡ descriptorSource frame i
+  pub named-threshold : i < byte frame 11 → new .threshold ≡ descriptorThreshold frame i
+  pub other-source : byte frame 11 ≤ i → new .source ≡ old .source
+  pub other-threshold : byte frame 11 ≤ i → new .threshold ≡ old .threshold
+  pub changed : (new .source ≡ old .source → ⊥) → new .value ≡ 0
+  pub cleared : T (clears frame) → T (peak (new .source)) → new .value ≡ 0
+  pub kept : new .source ≡ old .source → (T (clears frame) → T (peak (new .source)) → ⊥) → new .value ≡ old .value
+
+-- ".. and if there is one such monitor or more, Expander 2h is originated once." Of the phy, nothing but the monitors and
+-- Expander 2h is another; of the rest of the shelf nothing, the change count among it.
+pub record Configured (s : Shelf) (p : ℕ) (frame : List ℕ) (t : Shelf) : Type 0 where
+  pub size : length (t .phys) ≡ length (s .phys)
+  pub only : OnlyPhy s p t
+  pub changes : t .changes ≡ s .changes
+  pub rest : let x : Phy = phyAt s p in
+      phyAt t p
+      ≡ phyWith x (x .enabled) (x .errors) (phyAt t p .monitors) (x .change0) (x .expander1) (phyAt t p .expander2)
+  pub number : length (phyAt t p .monitors) ≡ length (phyAt s p .monitors)
+  pub each : (i : ℕ) → i < length (phyAt s p .monitors)
+      → MonitorConfigured frame i (monitorAt (phyAt s p) i) (monitorAt (phyAt t p) i)
+  pub originated : T (clears frame) → (i : ℕ) → i < length (phyAt s p .monitors)
+      → T (peak (monitorAt (phyAt t p) i .source)) → phyAt t p .expander2 ≡ originate (phyAt s p .expander2)
+  pub not-originated : (T (clears frame) → (i : ℕ) → i < length (phyAt s p .monitors)
+      → T (peak (monitorAt (phyAt t p) i .source)) → ⊥) → phyAt t p .expander2 ≡ phyAt s p .expander2
+
+-- ---- one monitor: what it is set to, and what the clear then makes of it
+
+module _ (frame : List ℕ) where
+  -- monitor i, m before, has these afterwards
+  abbrev sourceAfter : ℕ → Monitor → ℕ
+  sourceAfter i m = cond (ltb i (byte frame 11)) (descriptorSource frame i) (m .source)
+
+  abbrev thresholdAfter : ℕ → Monitor → ℕ
+  thresholdAfter i m = cond (ltb i (byte frame 11)) (descriptorThreshold frame i) (m .threshold)
+
+  -- whether the value stays: it is not cleared, and the source is the same
+  abbrev keeps : ℕ → ℕ → Bool
+  keeps old new = not (clears frame && peak new) && eqb old new
+
+  abbrev monitorAfter : ℕ → Monitor → Monitor
+  monitorAfter i m =
+      monitor (sourceAfter i m) (cond (keeps (m .source) (sourceAfter i m)) (m .value) 0) (thresholdAfter i m)
+
+  -- the definitions come to that: first the setting, then the clear
+  abbrev setAt : ℕ → Monitor → Monitor
+  setAt i m = cond (ltb i (byte frame 11)) (setMonitor frame i m) m
+
+  set-is : (i : ℕ) (m : Monitor)
+      → setAt i m
+      ≡ monitor (sourceAfter i m) (cond (eqb (m .source) (sourceAfter i m)) (m .value) 0) (thresholdAfter i m)
+  unfolding setMonitor
+  set-is i m = go (ltb i (byte frame 11))
+    where
+      go : (b : Bool)
+          → (let source : ℕ = cond b (descriptorSource frame i) (m .source) in
+          cond b (setMonitor frame i m) m
+          ≡ monitor source (cond (eqb (m .source) source) (m .value) 0) (cond b (descriptorThreshold frame i) (m .threshold)))
+      go true = refl
+      go false = rw (eq-eqb (m .source) (m .source) refl)
+
+  after-is : (i : ℕ) (m : Monitor) → cond (clears frame) (clearMonitor (setAt i m)) (setAt i m) ≡ monitorAfter i m
+  unfolding clearMonitor
+  after-is i m = rw (set-is i m) (go (clears frame) (peak (sourceAfter i m)) (eqb (m .source) (sourceAfter i m)))
+    where
+      go : (clear top same : Bool)
+          → (let after : ℕ → Monitor = λ value. monitor (sourceAfter i m) value (thresholdAfter i m) in
+          let set : Monitor = after (cond same (m .value) 0) in
+          cond clear (cond top (withValue set 0) set) set ≡ after (cond (not (clear && top) && same) (m .value) 0))
+      go true true same = refl
+      go true false same = refl
+      go false top same = refl
+
+  -- it is what the sentence says, and nothing else is
+  keeps-iff : (old new : ℕ) → T (keeps old new) ↔ ((T (clears frame) → T (peak new) → ⊥) × (old ≡ new))
+  keeps-iff old new =
+      both-iff (not (clears frame && peak new)) (eqb old new) (not-both-iff (clears frame) (peak new)) (eqb-iff old new)
+
+  after-configured : (i : ℕ) (m : Monitor) → MonitorConfigured frame i m (monitorAfter i m)
+  after-configured i m =
+      let keep = keeps-iff (m .source) (sourceAfter i m) in
+      let (keeping, losing) = cond-iff (keeps (m .source) (sourceAfter i m)) _ (m .value) 0 .0 refl in
+      record {
+        named-source = λ h. rw (lt-ltb i (byte frame 11) h);
+        named-threshold = λ h. rw (lt-ltb i (byte frame 11) h);
+        other-source = λ h. rw (le-ltb i (byte frame 11) h);
+        other-threshold = λ h. rw (le-ltb i (byte frame 11) h);
+        changed = λ other. losing (λ t. other (sym (keep .0 t .1)));
+        cleared = λ clear top. losing (λ t. keep .0 t .0 clear top);
+        kept = λ same stays. keeping (keep .1 (stays, sym same));
+      }
+
+  configured-after : {i : ℕ} {m new : Monitor} → MonitorConfigured frame i m new → new ≡ monitorAfter i m
+  configured-after {i} {m} {new} c =
+      let (source, threshold) = named (ltb i (byte frame 11)) refl in
+      let value : new .value ≡ cond (keeps (m .source) (new .source)) (m .value) 0 = valued _ _ refl refl in
+      rw (← source) (λ k. monitor (new .source) (value k) (threshold k))
+    where
+      named : (b : Bool) → ltb i (byte frame 11) ≡ b
+          → (new .source ≡ cond b (descriptorSource frame i) (m .source))
+          × (new .threshold ≡ cond b (descriptorThreshold frame i) (m .threshold))
+      named true e = let h = ltb-true i (byte frame 11) e in (c .named-source h, c .named-threshold h)
+      named false e = let h = ltb-false i (byte frame 11) e in (c .other-source h, c .other-threshold h)
+
+      valued : (gone same : Bool) → clears frame && peak (new .source) ≡ gone → eqb (m .source) (new .source) ≡ same
+          → new .value ≡ cond (not gone && same) (m .value) 0
+      valued true same g e = let (clear, top) = and-iff (clears frame) (peak (new .source)) .0 (rw g tt) in c .cleared clear top
+      valued false true g e =
+          c .kept (sym (eqb-true (m .source) (new .source) e)) (not-both-iff (clears frame) (peak (new .source)) .0 (rw g tt))
+      valued false false g e = c .changed (λ same. eqb-false (m .source) (new .source) e (sym same))
+
+-- ---- all of a phy's monitors
+
+-- there is one on a peak source
+abbrev pub HasPeak : List Monitor → Type 0
+HasPeak ms = (i : ℕ) × (i < length ms) × T (peak (getD ms i freshMonitor .source))
+
+pub anyPeak-iff : (ms : List Monitor) → T (anyPeak ms) ↔ HasPeak ms
+unfolding anyPeak
+anyPeak-iff [] = (λ t. absurd t, λ h. absurd (not-suc-le-zero (h .1)))
+anyPeak-iff (m ∷ ms) =
+    Iff·trans (either-iff (peak (m .source)) (anyPeak ms) (λ t. t, λ t. t) (anyPeak-iff ms)) (to, from)
+  where
+    to : T (peak (m .source)) ⊎ HasPeak ms → HasPeak (m ∷ ms)
+    to (inl t) = (0, zero-lt-suc (length ms), t)
+    to (inr (i, h, t)) = (suc i, suc-le-suc h, t)
+
+    from : HasPeak (m ∷ ms) → T (peak (m .source)) ⊎ HasPeak ms
+    from (zero, h, t) = inl t
+    from (suc i, h, t) = inr (i, le-of-suc-le-suc h, t)
+
+-- the clear finds one
+finds-iff : (frame : List ℕ) (ms : List Monitor) → T (clears frame && anyPeak ms) ↔ (T (clears frame) × HasPeak ms)
+finds-iff frame ms = both-iff (clears frame) (anyPeak ms) (λ t. t, λ t. t) (anyPeak-iff ms)
+
+-- the setting, of a list that begins with monitor i: its k-th is monitor n
+set-length : (frame : List ℕ) (d i : ℕ) (ms : List Monitor) → length (setMonitors frame d i ms) ≡ length ms
+unfolding setMonitors
+set-length frame d i [] = refl
+set-length frame d i (m ∷ ms) = ap suc (set-length frame d (suc i) ms)
+
+set-at : (frame : List ℕ) (ms : List Monitor) (i k n : ℕ) → i + k ≡ n → k < length ms
+    → getD (setMonitors frame (byte frame 11) i ms) k freshMonitor ≡ setAt frame n (getD ms k freshMonitor)
+unfolding setMonitors
+set-at frame [] i k n e h = absurd (not-suc-le-zero h)
+set-at frame (m ∷ ms) i zero n e h = let same : i ≡ n = omega arith in rw same
+set-at frame (m ∷ ms) i (suc k) n e h = set-at frame ms (suc i) k n (omega arith) (le-of-suc-le-suc h)
+
+-- the clear
+abbrev clearedIf : Bool → List Monitor → List Monitor
+clearedIf clear ms = cond clear (map clearMonitor ms) ms
+
+cleared-length : (clear : Bool) (ms : List Monitor) → length (clearedIf clear ms) ≡ length ms
+cleared-length true ms = length-map ms clearMonitor
+cleared-length false ms = refl
+
+cleared-at : (clear : Bool) (ms : List Monitor) (i : ℕ)
+    → (let m : Monitor = getD ms i freshMonitor in
+    getD (clearedIf clear ms) i freshMonitor ≡ cond clear (clearMonitor m) m)
+unfolding clearMonitor peak
+cleared-at true ms i = List·getD-map clearMonitor ms i freshMonitor
+cleared-at false ms i = refl
+
+-- it changes no source
+cleared-peaks : (ms : List Monitor) → anyPeak (map clearMonitor ms) ≡ anyPeak ms
+unfolding anyPeak clearMonitor
+cleared-peaks [] = refl
+cleared-peaks (m ∷ ms) = rw (cleared-peaks ms, source (peak (m .source)))
+  where
+    source : (top : Bool) → cond top (withValue m 0) m .source ≡ m .source
+    source true = refl
+    source false = refl
+
+-- ---- the phy
+
+module _ (frame : List ℕ) (x : Phy) where
+  -- its monitors once they are set, and afterwards
+  abbrev monitorsSet : List Monitor
+  monitorsSet = setMonitors frame (byte frame 11) 0 (x .monitors)
+
+  abbrev monitorsAfter : List Monitor
+  monitorsAfter = clearedIf (clears frame) monitorsSet
+
+  configured-is : configured frame (byte frame 11) (clears frame) x
+      ≡ withMonitors x monitorsAfter
+      (cond (clears frame && anyPeak monitorsAfter) (originate (x .expander2)) (x .expander2))
+  unfolding configured
+  configured-is = go (clears frame)
+    where
+      go : (clear : Bool)
+          → cond clear (clearOn (setOn frame (byte frame 11) x)) (setOn frame (byte frame 11) x)
+          ≡ withMonitors x (clearedIf clear monitorsSet)
+          (cond (clear && anyPeak (clearedIf clear monitorsSet)) (originate (x .expander2)) (x .expander2))
+      go true = rw cleared-peaks
+      go false = refl
+
+  number-after : length monitorsAfter ≡ length (x .monitors)
+  number-after = cleared-length (clears frame) monitorsSet ∙ set-length frame (byte frame 11) 0 (x .monitors)
+
+  each-after : (i : ℕ) → i < length (x .monitors)
+      → getD monitorsAfter i freshMonitor ≡ monitorAfter frame i (monitorAt x i)
+  each-after i h = rw (cleared-at, set-at frame (x .monitors) 0 i i (zero-add i) h) (after-is frame i (monitorAt x i))
+
+-- An accepted 93h has "the full effect": "each named monitor's source, threshold and value, then the clear; every other phy, and every
+-- other number, unchanged".
+pub configured-effect : (s : Shelf) (frame : List ℕ) (expected p : ℕ) → p < length (s .phys)
+    → Configured s p frame (effect s frame (ConfigurePhyEvent expected (clears frame) p (byte frame 11)))
+unfolding effect
+configured-effect s frame expected p h =
+    let x : Phy = phyAt s p in
+    let ms : List Monitor = monitorsAfter frame x in
+    let new = getD-set-same (s .phys) p (configured frame (byte frame 11) (clears frame) x) noPhy h ∙ configured-is frame x in
+    let (finding, missing) = cond-iff (clears frame && anyPeak ms) _ (originate (x .expander2)) (x .expander2) .0 refl in
+    record {
+      size = length-set (s .phys) p _;
+      only = put-only s p _ _;
+      changes = refl;
+      rest = rw new;
+      number = rw new (number-after frame x);
+      each = rw new (λ i l. rw (each-after frame x i l) (after-configured frame i (monitorAt x i)));
+      originated = rw new (λ clear i l top. finding (finds-iff frame ms .1 (clear, (i, rw (number-after frame x) l, top))));
+      not-originated = rw new
+          (λ none.
+          missing
+          (λ found.
+          let (clear, (i, l, top)) = finds-iff frame ms .0 found in
+          none clear i (rw (number-after frame x) at l) top));
+    }
+
+-- no two shelves are left by one 93h: its monitors are settled one by one, and they settle Expander 2h
+expander2-is : {s t : Shelf} {p : ℕ} {frame : List ℕ} → Configured s p frame t
+    → phyAt t p .expander2
+    ≡ cond (clears frame && anyPeak (phyAt t p .monitors)) (originate (phyAt s p .expander2)) (phyAt s p .expander2)
+expander2-is {s} {t} {p} {frame} c =
+    let finds = finds-iff frame (phyAt t p .monitors) in
+    cond-iff (clears frame && anyPeak (phyAt t p .monitors)) _ (originate (phyAt s p .expander2)) (phyAt s p .expander2) .1 (
+      λ found.
+          let (clear, (i, l, top)) = finds .0 found in
+          c .originated clear i (rw (c .number) at l) top,
+      λ none. c .not-originated (λ clear i l top. none (finds .1 (clear, (i, rw (c .number) l, top)))),
+    )
+
+pub configured-settled : {s t u : Shelf} {p : ℕ} {frame : List ℕ}
+    → Configured s p frame t → Configured s p frame u → t ≡ u
+configured-settled {s} {t} {u} {p} {frame} a b =
+    let monitors : phyAt t p .monitors ≡ phyAt u p .monitors =
+    ext-getD freshMonitor _ _ (a .number ∙ sym (b .number))
+    (λ i h.
+    let l : i < length (phyAt s p .monitors) = rw (a .number) at h in
+    configured-after frame (a .each i l) ∙ sym (configured-after frame (b .each i l))) in
+    same-shelf (a .only) (b .only) (a .size) (b .size) (cc (a .rest, b .rest, expander2-is a, expander2-is b)) (cc)
