@@ -1,6 +1,12 @@
 -- What the request demands, as theorems over the definitions.
+
+-- demands 1 and 2: the house refusals, the function results, the writes' effects, the response frames, and what every operation keeps
 pub mod Refusals
+pub mod Failures
 pub mod Effects
+pub mod Frames
+pub mod Invariant
+-- demand 3: what a shelf looks like to a group, one operation, a crossed-out one, whole runs, and two answers for readers
 pub mod Looks
 pub mod Steps
 pub mod Unseen

@@ -7,4 +7,7 @@ pub mod Join
 pub mod Picked
 pub mod Handled
 pub mod Inner
+pub mod Steps
 pub mod Lowest
+pub mod Drawn
+pub mod Places

@@ -10,4 +10,5 @@ pub mod Reports
 pub mod Request
 pub mod Results
 pub mod Reply
+pub mod Writes
 pub mod CrossedOut

@@ -1,11 +1,11 @@
 -- What an accepted write does to the shelf, number by number, in plain logic: a 91h to its phy, a 93h to its phy's monitors.
 -- Every other phy, and every number that is not named, is as it was. And what is said here settles the shelf: no two shelves
 -- are left by one write. Assumes nothing.
-use Prim.Native.Nat.{ℕ, zero, suc, _+_, _≤_, _<_, suc-le-suc}
-use native.Mathlib.Nat.{zero-add, zero-lt-suc, not-suc-le-zero, le-of-suc-le-suc}
+use Prim.Native.Nat.{ℕ, zero, suc, _+_, _≤_, _<_}
+use native.Mathlib.Nat.{zero-add, not-suc-le-zero, le-of-suc-le-suc}
 use native.Mathlib.Omega.{arith}
-use mathlib.Core.Path.{_≡_, refl, sym, ap, _∙_}
-use mathlib.Core.Logic.{_↔_, _⊎_, inl, inr, Iff·trans}
+use mathlib.Core.Path.{_≡_, refl, sym, _∙_}
+use mathlib.Core.Logic.{_↔_}
 use mathlib.Core.Bool.{Bool, true, false, not, cond, _&&_}
 use mathlib.Core.List.{List, [], _∷_, map, List·Memᴰ}
 use borrow.Author.Tests.{ltb-true, ltb-false, lt-ltb, le-ltb, eqb-true, eqb-false, eq-eqb}
@@ -25,8 +25,9 @@ use Rattle.model.specs.Sources.{peak}
 use Rattle.model.specs.Writes.{controlled, controlChanges, setMonitor, setMonitors, withMonitors, setOn}
 use Rattle.model.specs.Writes.{clearMonitor, anyPeak, clearOn, configured, effect}
 use Rattle.model.specs.Zone.{bit}
-use Rattle.model.proofs.Laws.Tests.{and-iff, not-both-iff, both-iff, either-iff, cond-iff, eqb-iff, by-each}
+use Rattle.model.proofs.Laws.Tests.{and-iff, not-both-iff, both-iff, cond-iff, eqb-iff, by-each}
 use Rattle.model.proofs.Plain.Shelf.{OnlyPhy, put-only}
+use Rattle.model.proofs.Plain.Writes.{set-length, HasPeak, anyPeak-iff}
 
 -- Two shelves that differ from s in phy p and in the change count at most, and agree in these, are one.
 same-shelf : {s t u : Shelf} {p : ℕ} → OnlyPhy s p t → OnlyPhy s p u
@@ -227,34 +228,11 @@ module _ (frame : List ℕ) where
 
 -- ---- all of a phy's monitors
 
--- there is one on a peak source
-abbrev pub HasPeak : List Monitor → Type 0
-HasPeak ms = (i : ℕ) × (i < length ms) × T (peak (getD ms i freshMonitor .source))
-
-pub anyPeak-iff : (ms : List Monitor) → T (anyPeak ms) ↔ HasPeak ms
-unfolding anyPeak
-anyPeak-iff [] = (λ t. absurd t, λ h. absurd (not-suc-le-zero (h .1)))
-anyPeak-iff (m ∷ ms) =
-    Iff·trans (either-iff (peak (m .source)) (anyPeak ms) (λ t. t, λ t. t) (anyPeak-iff ms)) (to, from)
-  where
-    to : T (peak (m .source)) ⊎ HasPeak ms → HasPeak (m ∷ ms)
-    to (inl t) = (0, zero-lt-suc (length ms), t)
-    to (inr (i, h, t)) = (suc i, suc-le-suc h, t)
-
-    from : HasPeak (m ∷ ms) → T (peak (m .source)) ⊎ HasPeak ms
-    from (zero, h, t) = inl t
-    from (suc i, h, t) = inr (i, le-of-suc-le-suc h, t)
-
 -- the clear finds one
 finds-iff : (frame : List ℕ) (ms : List Monitor) → T (clears frame && anyPeak ms) ↔ (T (clears frame) × HasPeak ms)
 finds-iff frame ms = both-iff (clears frame) (anyPeak ms) (λ t. t, λ t. t) (anyPeak-iff ms)
 
 -- the setting, of a list that begins with monitor i: its k-th is monitor n
-set-length : (frame : List ℕ) (d i : ℕ) (ms : List Monitor) → length (setMonitors frame d i ms) ≡ length ms
-unfolding setMonitors
-set-length frame d i [] = refl
-set-length frame d i (m ∷ ms) = ap suc (set-length frame d (suc i) ms)
-
 set-at : (frame : List ℕ) (ms : List Monitor) (i k n : ℕ) → i + k ≡ n → k < length ms
     → getD (setMonitors frame (byte frame 11) i ms) k freshMonitor ≡ setAt frame n (getD ms k freshMonitor)
 unfolding setMonitors

@@ -14,7 +14,7 @@ use Rattle.model.specs.Shelf.{start}
 use Rattle.model.proofs.Demands.Looks.{looks}
 use Rattle.model.proofs.Demands.Steps.{looks-next, looks-told}
 use Rattle.model.proofs.Demands.Unseen.{crossed-unseen, crossed-untold, crossed-zones}
-use Rattle.model.proofs.Laws.Inner.{SameZones, next-zones, zones-same, zones-on}
+use Rattle.model.proofs.Laws.Steps.{SameZones, next-zones, zones-same, zones-on}
 
 -- ---- Two shelves that look the same to g give it the same answers, whatever happens.
 

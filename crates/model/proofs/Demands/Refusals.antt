@@ -22,7 +22,7 @@ use Rattle.model.specs.Sources.{supported}
 use Rattle.model.specs.Tests.{given, within, allBelow}
 use Rattle.model.specs.Zone.{zoneGroup, legalTable}
 use Rattle.model.proofs.Laws.Checks.{outcome-taken, outcome-stays}
-use Rattle.model.proofs.Laws.Handled.{concluded, handled, every-handled, every-concluded}
+use Rattle.model.proofs.Laws.Handled.{concluded, handled, concluded-all, handled-all}
 use Rattle.model.proofs.Laws.Lowest.{Gives, firstGiven, row-gives}
 use Rattle.model.proofs.Laws.Tests.{check-map, denied-iff, either-iff, above-iff, ltb-iff, eqb-iff, within-iff}
 use Rattle.model.proofs.Laws.Tests.{some-below-iff}
@@ -98,7 +98,7 @@ request-number s g frame out = rw (handled s g frame (length out)) (simp (check-
     number h = answerNumber (answer (h .reply))
 
     answered : number (concluded s g frame) ≡ 0
-    answered = every-concluded (λ h. number h ≡ 0) s g frame (λ e. refl) (λ e. refl)
+    answered = concluded-all (λ h. number h ≡ 0) s g frame refl (λ e. refl)
 
 pub request-gives : (s : Shelf) (g : ℕ) (frame out : List ℕ)
     → Gives (requestRefusals g frame out) 4 (answerNumber (served s g frame out .answer))
@@ -151,13 +151,11 @@ pub request-refusal : (s : Shelf) (g : ℕ) (frame out : List ℕ) → 1 ≤ ans
     → (served s g frame out .shelf ≡ s) × (lentAfter s g frame out ≡ out)
 unfolding served lentAfter
 request-refusal s g frame out =
-    every-handled
-    (λ h. 1 ≤ answerNumber (answer (h .reply)) → (h .shelf ≡ s) × (lent out (h .reply) ≡ out))
+    handled-all (λ h. 1 ≤ answerNumber (answer (h .reply)) → (h .shelf ≡ s) × (lent out (h .reply) ≡ out))
     s g frame (length out)
     (λ house refused. (refl, refl))
-    (every-concluded (λ h. 1 ≤ answerNumber (answer (h .reply)) → (h .shelf ≡ s) × (lent out (h .reply) ≡ out)) s g frame
+    (λ refused. absurd (omega arith))
     (λ e refused. absurd (omega arith))
-    (λ e refused. absurd (omega arith)))
 
 pub event-refusal : (s : Shelf) (p source amount : ℕ) → 1 ≤ takenNumber (event s p source amount .taken)
     → event s p source amount .shelf ≡ s

@@ -1,17 +1,15 @@
 -- One operation, as a source group sees it: what it is told, and how the shelf looks afterwards, depend on how the shelf looked before
 -- alone. Assumes nothing.
 use Prim.Native.Nat.{ℕ}
-use mathlib.Core.Path.{_≡_, refl, ap, ap₂, fun-ext, _∙_}
+use mathlib.Core.Path.{_≡_, refl, ap, fun-ext}
 use mathlib.Core.Bool.{Bool, true, false, not, cond}
 use mathlib.Core.List.{List, [], _∷_, _++_}
 use borrow.Author.Tests.{eqb-true}
-use lib.Dec.{ltb, eqb}
+use lib.Dec.{eqb}
 use lib.ListN.{length}
-use Rattle.model.specs.declared.FunctionResult.{FunctionResult}
-use Rattle.model.specs.declared.FunctionResult.the-variants.{Accepted, UnknownSmpFunction, InvalidRequestFrameLength}
+use Rattle.model.specs.declared.FunctionResult.the-variants.{Accepted}
 use Rattle.model.specs.declared.FunctionResult.the-variants.{PhyDoesNotExist, PhyVacant}
 use Rattle.model.specs.declared.House.the-variants.{NoSuchPhy}
-use Rattle.model.specs.declared.Phy.{Phy}
 use Rattle.model.specs.declared.Request.{Request}
 use Rattle.model.specs.declared.Request.the-variants.{ReportGeneral, ReportManufacturer, ReportBroadcast}
 use Rattle.model.specs.declared.Request.the-variants.{ReportPhyErrorLog, ReportPhyEvent, PhyControl}
@@ -24,14 +22,14 @@ use Rattle.model.specs.Reach.{reaches, reachSet, reachNumber, reachQuery
 use Rattle.model.specs.Reply.{deviceListed, phyListed, broadcasts, broadcastFrame, reportGeneral, reportManufacturer}
 use Rattle.model.specs.Reply.{reportBroadcast, reportPhyErrorLog, reportPhyEvent, respond}
 use Rattle.model.specs.Reports.{eventTaken, event, linkChange, reducedFunctionality, sesNotice}
-use Rattle.model.specs.Request.{badFrame, functionOf, known, lengthRight, asked}
+use Rattle.model.specs.Request.{asked}
 use Rattle.model.specs.Results.{accepted, countRight, checkRead, decide}
 use Rattle.model.specs.Runs.{Operation, Ask, Event, LinkChange, ReducedFunctionality, Ses, QueryReach, next, told}
 use Rattle.model.specs.Runs.{Answered, Shown}
 use Rattle.model.specs.Server.{Handled, Sends, handle, lent, answer, served, lentAfter}
 use Rattle.model.specs.Shelf.{phyNumber, exists, phyAt, shelfWith, outcome}
 use Rattle.model.specs.Tests.{check, given, joinBelow}
-use Rattle.model.specs.Writes.{withoutErrors, controlled, controlChanges, setMonitors, configured, effect}
+use Rattle.model.specs.Writes.{controlled, controlChanges, configured, effect}
 use Rattle.model.proofs.Demands.Looks.{looks, looks-reaches, looks-reached, looks-twice}
 use Rattle.model.proofs.Demands.Looks.{looks-change}
 use Rattle.model.proofs.Laws.Inner.{enablesBy, event-inner, change-inner, configured-inner, controlled-inner}
@@ -117,8 +115,8 @@ module _ (g : ℕ) (s : Shelf) where
   looks-handle h frame room =
       both-handled alike (looks g s) s h frame room (λ house. looks-twice g s)
       (both-concluded alike (looks g s) s h frame (looks-verdict h frame)
-      (λ e. looks-effect frame (asked frame))
-      (λ e. looks-twice g s))
+      (λ e. looks-twice g s)
+      (λ e. looks-effect frame (asked frame)))
     where
       alike : Handled → Handled → Type 0
       alike x y = looks g (x .shelf) ≡ looks g (y .shelf)
@@ -128,8 +126,8 @@ module _ (g : ℕ) (s : Shelf) where
   looks-reply frame room =
       both-handled alike (looks g s) s g frame room (λ house. refl)
       (both-concluded alike (looks g s) s g frame (looks-verdict g frame)
-      (λ e. ap Sends (looks-respond frame (asked frame) (accepted-decided s g frame e .2)))
-      (λ e. refl))
+      (λ e. refl)
+      (λ e. ap Sends (looks-respond frame (asked frame) (accepted-decided s g frame e .2))))
     where
       alike : Handled → Handled → Type 0
       alike x y = x .reply ≡ y .reply

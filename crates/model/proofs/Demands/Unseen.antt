@@ -1,30 +1,30 @@
 -- An operation that is crossed out for a group tells it nothing, and the shelf looks to it as before. And what is crossed out is the
 -- same all through a run. Assumes nothing.
 use Prim.Native.Nat.{ℕ}
-use mathlib.Core.Path.{_≡_, refl, ap, _∙_}
-use mathlib.Core.Logic.{⊎-elim}
-use mathlib.Core.Bool.{Bool, true, false, not, cond, _&&_}
+use mathlib.Core.Path.{_≡_, refl}
+use mathlib.Core.Bool.{false}
 use mathlib.Core.List.{List, [], _∷_, List·Memᴰ·head, List·Memᴰ·tail}
 use borrow.Author.Tests.{ne-eqb}
-use lib.Dec.{T, leb, eqb, T-not, not-T}
+use lib.Dec.{T, eqb}
 use lib.ListN.{length}
 use Rattle.model.specs.declared.Phy.{Phy}
 use Rattle.model.specs.declared.Shelf.{Shelf}
 use Rattle.model.specs.declared.Taken.{Taken}
 use Rattle.model.specs.declared.Taken.the-variants.{Done, NotDone}
 use Rattle.model.specs.Bytes.{byte}
-use Rattle.model.specs.Counting.{originate, eventOn}
+use Rattle.model.specs.Counting.{eventOn}
 use Rattle.model.specs.CrossedOut.{aboutPhy, linkResetOrDisable, crossedOut}
 use Rattle.model.specs.Reach.{reaches}
 use Rattle.model.specs.Reports.{eventTaken, event}
 use Rattle.model.specs.Request.{functionOf, asked}
 use Rattle.model.specs.Runs.{Operation, Ask, Event, LinkChange, ReducedFunctionality, Ses, QueryReach, next, told}
-use Rattle.model.specs.Shelf.{exists, phyAt, put, outcome}
+use Rattle.model.specs.Shelf.{phyAt, outcome}
 use Rattle.model.specs.Writes.{controlled, controlChanges, configured, effect}
 use Rattle.model.specs.Zone.{bit}
 use Rattle.model.proofs.Demands.Looks.{looks, looks-stays}
-use Rattle.model.proofs.Laws.Handled.{every-handled, every-concluded}
-use Rattle.model.proofs.Laws.Inner.{Inner, SameZones, event-inner, configured-inner, controlled-inner}
+use Rattle.model.proofs.Laws.Handled.{handled-all}
+use Rattle.model.proofs.Laws.Inner.{Inner, event-inner, configured-inner, controlled-inner}
+use Rattle.model.proofs.Laws.Steps.{SameZones}
 use Rattle.model.proofs.Laws.Tests.{is-false, by-each}
 use Rattle.model.proofs.Plain.CrossedOut.{CrossedRequest, crossed-request-iff, crossed-event-iff}
 use Rattle.model.proofs.Plain.Request.{asked-11, asked-14, asked-91, asked-93}
@@ -84,10 +84,8 @@ module _ (g : ℕ) (s : Shelf) where
       → looks g (next s operation) ≡ looks g s
   unfolding next event crossedOut
   crossed-unseen (Ask h frame out) t =
-      every-handled (λ x. looks g (x .shelf) ≡ looks g s) s h frame (length out) (λ house. refl)
-      (every-concluded (λ x. looks g (x .shelf) ≡ looks g s) s h frame
+      handled-all (λ x. looks g (x .shelf) ≡ looks g s) s h frame (length out) (λ house. refl) refl
       (λ e. unseen-effect h frame (crossed-request-iff g s h frame out .0 t))
-      (λ e. refl))
   crossed-unseen (Event p source amount) t =
       outcome-unseen (eventTaken s p source amount) _
       (looks-stays g s p (eventOn source amount) (event-inner source amount)

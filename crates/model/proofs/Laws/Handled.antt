@@ -1,7 +1,8 @@
 -- The whole way of a request in one row: H4, H5, H6, then the result, then the response with its effect, or the failure with none.
 -- Assumes nothing.
 use Prim.Native.Nat.{ℕ}
-use mathlib.Core.Path.{_≡_, refl}
+use native.Mathlib.Omega.{arith}
+use mathlib.Core.Path.{_≡_, refl, subst}
 use mathlib.Core.Bool.{Bool, true, false, cond, false≢true}
 use mathlib.Core.List.{List}
 use lib.Dec.{ltb}
@@ -12,8 +13,8 @@ use Rattle.model.specs.declared.House.the-variants.{SourceGroup, ShortBu
 use Rattle.model.specs.declared.Judged.the-variants.{Asked, NoFrame, Fails}
 use Rattle.model.specs.declared.Shelf.{Shelf}
 use Rattle.model.specs.Request.{badFrame, functionOf, known, lengthRight, asked, judge}
-use Rattle.model.specs.Reply.{respond}
-use Rattle.model.specs.Results.{accepted, decide}
+use Rattle.model.specs.Reply.{failed, respond}
+use Rattle.model.specs.Results.{resultCode, accepted, decide}
 use Rattle.model.specs.Server.{Handled, Sends, refuse, fail, conclude, handleJudged, handle}
 use Rattle.model.specs.Tests.{check, given}
 use Rattle.model.specs.Writes.{effect}
@@ -26,8 +27,8 @@ verdict s g frame =
     (decide s g frame (asked frame)))
 
 -- an accepted request: its response and its full effect
-abbrev pub done : Shelf → ℕ → List ℕ → Handled
-done s g frame = record { reply = Sends (respond s g (asked frame)); shelf = effect s frame (asked frame) }
+abbrev pub granted : Shelf → ℕ → List ℕ → Handled
+granted s g frame = record { reply = Sends (respond s g (asked frame)); shelf = effect s frame (asked frame) }
 
 -- a request that draws no house refusal
 abbrev pub concluded : Shelf → ℕ → List ℕ → Handled
@@ -80,26 +81,42 @@ module _ (P : Handled → Handled → Type 0) (s t : Shelf) (g : ℕ) (frame : L
       go false false true = refused BadFrame
       go false false false = rest
 
-  -- the same result on both: accepted, or failed
+  -- the same result on both: failed, or accepted
   pub both-concluded : verdict s g frame ≡ verdict t g frame
-      → (accepted (verdict t g frame) ≡ true → P (done s g frame) (done t g frame))
       → (accepted (verdict t g frame) ≡ false → P (fail s frame (verdict t g frame)) (fail t frame (verdict t g frame)))
+      → (accepted (verdict t g frame) ≡ true → P (granted s g frame) (granted t g frame))
       → P (concluded s g frame) (concluded t g frame)
-  both-concluded same passed failed = rw same (go (accepted (verdict t g frame)) refl)
+  both-concluded same failing passing = rw same (go (accepted (verdict t g frame)) refl)
     where
       go : (b : Bool) → accepted (verdict t g frame) ≡ b
-          → P (cond b (done s g frame) (fail s frame (verdict t g frame))) (cond b (done t g frame) (fail t frame (verdict t g frame)))
-      go true e = passed e
-      go false e = failed e
+          → P (cond b (granted s g frame) (fail s frame (verdict t g frame)))
+          (cond b (granted t g frame) (fail t frame (verdict t g frame)))
+      go true e = passing e
+      go false e = failing e
 
 module _ (P : Handled → Type 0) (s : Shelf) (g : ℕ) (frame : List ℕ) where
-  pub every-handled : (room : ℕ) → ((house : House) → P (refuse s house)) → P (concluded s g frame)
-      → P (handle s g frame room)
-  every-handled room refused rest = both-handled (λ x y. P x) s s g frame room refused rest
+  pub concluded-all : P (fail s frame (verdict s g frame)) → (accepted (verdict s g frame) ≡ true → P (granted s g frame))
+      → P (concluded s g frame)
+  concluded-all failing passing = both-concluded (λ x y. P x) s s g frame refl (λ e. failing) passing
 
-  pub every-concluded : (accepted (verdict s g frame) ≡ true → P (done s g frame))
-      → (accepted (verdict s g frame) ≡ false → P (fail s frame (verdict s g frame))) → P (concluded s g frame)
-  every-concluded passed failed = both-concluded (λ x y. P x) s s g frame refl passed failed
+  pub handled-all : (room : ℕ) → ((house : House) → P (refuse s house)) → P (fail s frame (verdict s g frame))
+      → (accepted (verdict s g frame) ≡ true → P (granted s g frame)) → P (handle s g frame room)
+  handled-all room refused failing passing =
+      both-handled (λ x y. P x) s s g frame room refused (concluded-all failing passing)
+
+-- so what holds of the failed response, and of the accepted one, holds of every response
+pub sent-all : (P : List ℕ → Type 0) (s : Shelf) (g : ℕ) (frame : List ℕ) (room : ℕ)
+    → P (failed (functionOf frame) (resultCode (verdict s g frame)))
+    → (accepted (verdict s g frame) ≡ true → P (respond s g (asked frame)))
+    → (bytes : List ℕ) → handle s g frame room .reply ≡ Sends bytes → P bytes
+sent-all P s g frame room failing passing =
+    handled-all (λ h. (bytes : List ℕ) → h .reply ≡ Sends bytes → P bytes) s g frame room
+    (λ house bytes e. absurd (let z : _≡_ {A = ℕ} 0 1 = cc in omega arith))
+    (sent failing)
+    (λ e. sent (passing e))
+  where
+    sent : {response : List ℕ} → P response → (bytes : List ℕ) → Sends response ≡ Sends bytes → P bytes
+    sent {response} p bytes e = let same : response ≡ bytes = cc in subst P same p
 
 -- what is accepted was of a known function and a right length, and passed what the shelf decides
 pub accepted-decided : (s : Shelf) (g : ℕ) (frame : List ℕ) → accepted (verdict s g frame) ≡ true

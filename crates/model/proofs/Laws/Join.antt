@@ -1,6 +1,6 @@
 -- What belongs to 0, then what belongs to 1, and so on: what is in such a list, where it stands, how long it is, and when it rises.
 -- Assumes nothing.
-use Prim.Native.Nat.{ℕ, zero, suc, _≤_, _<_}
+use Prim.Native.Nat.{ℕ, zero, suc, _*_, _≤_, _<_}
 use native.Mathlib.Nat.{not-suc-le-zero, le-refl, le-trans, lt-of-lt-of-le}
 use native.Mathlib.Decide.{le-ind}
 use native.Mathlib.Omega.{arith}
@@ -33,6 +33,14 @@ join-at {A} (suc n) of d p h =
     (getD-at before (of n) [] d n (join-length n of))
     p
     h
+
+-- ---- at most k elements to each number
+
+pub join-few : {A : Type 0} (n k : ℕ) (of : ℕ → List A) → ((p : ℕ) → length (of p) ≤ k)
+    → length (joinBelow n of) ≤ n * k
+unfolding joinBelow
+join-few zero k of few = omega arith
+join-few (suc n) k of few = simp length-append (omega (arith, join-few n k of few, few n))
 
 -- ---- what is in it
 

@@ -2,9 +2,10 @@
 use Prim.Native.Nat.{ℕ, _<_}
 use mathlib.Core.Path.{refl}
 use mathlib.Core.Logic.{⊎-elim}
-use mathlib.Core.Bool.{Bool, true, false, cond}
+use mathlib.Core.Bool.{Bool, cond}
 use mathlib.Core.List.{List, [], _∷_, _++_, List·Memᴰ, List·Memᴰ·head, List·Memᴰ·tail, List·Memᴰ·append-cases}
 use mathlib.Core.List.{List·Memᴰ·not-nil}
+use Rattle.model.proofs.Laws.Tests.{cond-both}
 
 abbrev pub Rising : {A : Type 0} → (A → ℕ) → List A → Type 0
 Rising key [] = Unit {0}
@@ -26,5 +27,4 @@ module _ {A : Type 0} (key : A → ℕ) where
 
   -- one of two rising lists
   pub rising-cond : (b : Bool) (xs ys : List A) → Rising key xs → Rising key ys → Rising key (cond b xs ys)
-  rising-cond true xs ys rx ry = rx
-  rising-cond false xs ys rx ry = ry
+  rising-cond = cond-both (Rising key)

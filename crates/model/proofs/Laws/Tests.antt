@@ -48,6 +48,14 @@ same-iff true false = (λ t. absurd t, λ e. absurd (true≢false e))
 same-iff false true = (λ t. absurd t, λ e. absurd (false≢true e))
 same-iff false false = (λ t. refl, λ e. tt)
 
+-- that a test fails, from what it says: by itself, and where it is asked only under a condition
+pub fails-iff : (a : Bool) {A : Type 0} → T a ↔ A → (T a → ⊥) ↔ (A → ⊥)
+fails-iff a f = (λ no-t x. no-t (f .1 x), λ no-a t. no-a (f .0 t))
+
+pub fails-under-iff : (m a : Bool) {M A : Type 0} → T m ↔ M → T a ↔ A → (T (not m || a) → ⊥) ↔ (M × (A → ⊥))
+fails-under-iff true a f g = (λ no-t. (f .0 tt, fails-iff a g .0 no-t), λ h. fails-iff a g .1 (h .1))
+fails-under-iff false a f g = (λ no-t. absurd (no-t tt), λ h. absurd (f .1 (h .0)))
+
 -- a test of several parts, from what each part says
 pub both-iff : (a b : Bool) {A B : Type 0} → T a ↔ A → T b ↔ B → T (a && b) ↔ (A × B)
 both-iff a b f g = Iff·trans (and-iff a b) (Iff·and f g)
@@ -164,3 +172,15 @@ pub check-map : {A B : Type 0} (f : A → B) (b : Bool) (failure rest : A)
     → f (check b failure rest) ≡ check b (f failure) (f rest)
 check-map f true failure rest = refl
 check-map f false failure rest = refl
+
+-- ---- whichever way a test comes out
+
+-- what holds of the one where the test holds, and of the other where it does not, holds of the one that is chosen
+pub cond-by : {A : Type 0} (P : A → Type 0) (b : Bool) (x y : A) → (b ≡ true → P x) → (b ≡ false → P y)
+    → P (cond b x y)
+cond-by P true x y px py = px refl
+cond-by P false x y px py = py refl
+
+-- what holds of both holds of the one that is chosen
+pub cond-both : {A : Type 0} (P : A → Type 0) (b : Bool) (x y : A) → P x → P y → P (cond b x y)
+cond-both P b x y px py = cond-by P b x y (λ e. px) (λ e. py)

@@ -196,13 +196,13 @@ listed-iff s g kind p r n =
 abbrev pub place : Broadcast → ℕ
 place b = cond (eqb (b .phy) 0xFF) (b .reason) (4 * suc (b .phy) + b .reason)
 
--- every reason is below 4
-kept-reason : (s : Shelf) (kind p r n : ℕ) → Kept s kind p r n → r < 4
-kept-reason s kind p r n (Change0 ek there er en) = omega arith
-kept-reason s kind p r n (Expander1 ek there er en) = omega arith
-kept-reason s kind p r n (Expander2 ek there er en) = omega arith
-kept-reason s kind p r n (Expander3 ek ep er en) = omega arith
-kept-reason s kind p r n (Ses0 ek ep er en) = omega arith
+-- every phy, and FFh, fits a byte, and every reason is below 4
+pub kept-small : (s : Shelf) (kind p r n : ℕ) → Kept s kind p r n → (p ≤ 0xFF) × (r < 4)
+kept-small s kind p r n (Change0 ek there er en) = omega (arith, ltb-iff p (phyNumber s) .0 there)
+kept-small s kind p r n (Expander1 ek there er en) = omega (arith, ltb-iff p (phyNumber s) .0 there)
+kept-small s kind p r n (Expander2 ek there er en) = omega (arith, ltb-iff p (phyNumber s) .0 there)
+kept-small s kind p r n (Expander3 ek ep er en) = omega arith
+kept-small s kind p r n (Ses0 ek ep er en) = omega arith
 
 place-device : (b : Broadcast) → b .phy ≡ 0xFF → place b ≡ b .reason
 place-device b e = rw (eq-eqb (b .phy) 0xFF e)
@@ -248,7 +248,7 @@ phy-places : (s : Shelf) (g kind p : ℕ) (b : Broadcast) → p < phyNumber s �
 phy-places s g kind p b h m =
     let listed-there = onlyIf-iff (reaches s g p) (phyListed kind p (phyAt s p)) .0 m .1 in
     let (same, due) = phy-has s kind p (b .phy) (b .reason) (b .count) (ltb-iff p (phyNumber s) .1 h) listed-there in
-    let small : b .reason < 4 = kept-reason s kind p (b .reason) (b .count) (due .0) in
+    let small : b .reason < 4 = kept-small s kind p (b .reason) (b .count) (due .0) .1 in
     let at : place b ≡ 4 * suc (b .phy) + b .reason = place-phy b (omega arith) in
     (omega arith, omega arith)
 
@@ -261,7 +261,7 @@ listed-rising s g kind =
     (λ p. rising-cond place (reaches s g p) (phyListed kind p (phyAt s p)) [] (rising-phy kind p (phyAt s p)) tt))
     (λ b c mb mc.
     let (ff, due) = device-has s kind (b .phy) (b .reason) (b .count) mb in
-    let small : b .reason < 4 = kept-reason s kind (b .phy) (b .reason) (b .count) (due .0) in
+    let small : b .reason < 4 = kept-small s kind (b .phy) (b .reason) (b .count) (due .0) .1 in
     let (p, h, there) = join-has (phyNumber s) (ofPhy s g kind) mc in
     let above : 4 * suc p ≤ place c = phy-places s g kind p c h there .0 in
     let at : place b ≡ b .reason = place-device b ff in

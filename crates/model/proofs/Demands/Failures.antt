@@ -1,0 +1,175 @@
+-- Demands 1 and 2, the function results: document 01's list, when each failure is there, on the frame's bytes; the first of them in the
+-- document's order decides; and what a failed result leaves. Assumes nothing.
+use Prim.Native.Nat.{ℕ, _≤_, _<_}
+use mathlib.Core.Path.{_≡_, refl}
+use mathlib.Core.Logic.{_↔_, _⊎_, Iff·trans}
+use mathlib.Core.Bool.{Bool, true, false, not, _||_}
+use mathlib.Core.List.{List, [], _∷_, List·Memᴰ}
+use lib.Dec.{T, leb, eqb}
+use Rattle.model.specs.declared.Shelf.{Shelf}
+use Rattle.model.specs.Bytes.{byte, word}
+use Rattle.model.specs.Reach.{reaches}
+use Rattle.model.specs.Request.{functionOf, known, lengthRight, descriptorSource, firstUnsupported}
+use Rattle.model.specs.Results.{resultCode, countRight, knownOperation, decide}
+use Rattle.model.specs.Shelf.{exists}
+use Rattle.model.specs.Sources.{supported}
+use Rattle.model.specs.Tests.{oneOf}
+use Rattle.model.proofs.Laws.Drawn.{Draws, firstFailure, Tell, draws-first}
+use Rattle.model.proofs.Laws.Handled.{verdict}
+use Rattle.model.proofs.Laws.Tests.{fails-iff, fails-under-iff, leb-iff, eqb-iff, oneOf-iff, by-each, check-map}
+use Rattle.model.proofs.Plain.Request.{RightLength, known-iff, asked-00, asked-01, asked-06, asked-11, asked-14}
+use Rattle.model.proofs.Plain.Request.{asked-91, asked-93, length-right, allowed-iff, none-unsupported}
+use Rattle.model.proofs.Plain.Results.{count-right, known-operation}
+
+-- ---- "In this order, first failure decides": the list, an entry to a code
+
+-- a frame of one of these functions
+abbrev pub Of : List ℕ → List ℕ → Type 0
+Of functions frame = List·Memᴰ (functionOf frame) functions
+
+-- each of the d descriptors, d in byte 11, has the source 00h or a supported one
+abbrev pub SourcesAllowed : List ℕ → Type 0
+SourcesAllowed frame =
+    (i : ℕ) → i < byte frame 11 → (descriptorSource frame i ≡ 0x00) ⊎ T (supported (descriptorSource frame i))
+
+abbrev pub failures : Shelf → ℕ → List ℕ → List (ℕ × Type 0)
+failures s g frame =
+    -- 1. "01h UNKNOWN SMP FUNCTION: not 00h, 01h, 06h, 11h, 14h, 91h or 93h."
+    (0x01, Of (0x00 ∷ 0x01 ∷ 0x06 ∷ 0x11 ∷ 0x14 ∷ 0x91 ∷ 0x93 ∷ []) frame → ⊥)
+    -- 2. "03h INVALID REQUEST FRAME LENGTH: byte 3 or the frame's true length is not as below."
+    ∷ (0x03, RightLength frame → ⊥)
+    -- 3. "04h INVALID EXPANDER CHANGE COUNT: 91h and 93h, when bytes 4 and 5 are neither 0000h nor the present count."
+    ∷ (0x04, Of (0x91 ∷ 0x93 ∷ []) frame × (List·Memᴰ (word frame 4) (0x0000 ∷ s .changes ∷ []) → ⊥))
+    -- 4. "10h PHY DOES NOT EXIST (functions with a phy, byte 9)."
+    ∷ (0x10, Of (0x11 ∷ 0x14 ∷ 0x91 ∷ 0x93 ∷ []) frame × (T (exists s (byte frame 9)) → ⊥))
+    -- 5. "Not reached: 16h PHY VACANT for 11h and 14h, 20h SMP ZONE VIOLATION for 91h and 93h."
+    ∷ (0x16, Of (0x11 ∷ 0x14 ∷ []) frame × (T (reaches s g (byte frame 9)) → ⊥))
+    ∷ (0x20, Of (0x91 ∷ 0x93 ∷ []) frame × (T (reaches s g (byte frame 9)) → ⊥))
+    -- 6. "Contents: 13h UNKNOWN PHY OPERATION (91h, any operation not named below);"
+    ∷ (0x13, Of (0x91 ∷ []) frame × (List·Memᴰ (byte frame 10) (0x00 ∷ 0x01 ∷ 0x03 ∷ 0x05 ∷ []) → ⊥))
+    -- "02h SMP FUNCTION FAILED for a broadcast type above 0Fh (06h) or more than four descriptors (93h);"
+    ∷ (0x02, Of (0x06 ∷ []) frame × (byte frame 2 ≤ 0x0F → ⊥))
+    ∷ (0x02, Of (0x93 ∷ []) frame × (byte frame 11 ≤ 4 → ⊥))
+    -- "then 17h UNKNOWN PHY EVENT SOURCE (93h)."
+    ∷ (0x17, Of (0x93 ∷ []) frame × (SourcesAllowed frame → ⊥))
+    ∷ []
+
+-- ---- the same as checks
+
+-- passes, if the function is none of these, or the test holds
+abbrev onlyFor : List ℕ → List ℕ → Bool → Bool
+onlyFor functions frame test = not (oneOf functions (functionOf frame)) || test
+
+abbrev checks : Shelf → ℕ → List ℕ → List (ℕ × Bool)
+checks s g frame =
+    (0x01, known (functionOf frame))
+    ∷ (0x03, lengthRight frame)
+    ∷ (0x04, onlyFor (0x91 ∷ 0x93 ∷ []) frame (countRight s (word frame 4)))
+    ∷ (0x10, onlyFor (0x11 ∷ 0x14 ∷ 0x91 ∷ 0x93 ∷ []) frame (exists s (byte frame 9)))
+    ∷ (0x16, onlyFor (0x11 ∷ 0x14 ∷ []) frame (reaches s g (byte frame 9)))
+    ∷ (0x20, onlyFor (0x91 ∷ 0x93 ∷ []) frame (reaches s g (byte frame 9)))
+    ∷ (0x13, onlyFor (0x91 ∷ []) frame (knownOperation (byte frame 10)))
+    ∷ (0x02, onlyFor (0x06 ∷ []) frame (leb (byte frame 2) 0x0F))
+    ∷ (0x02, onlyFor (0x93 ∷ []) frame (leb (byte frame 11) 4))
+    ∷ (0x17, onlyFor (0x93 ∷ []) frame (eqb (firstUnsupported frame (byte frame 11) 0) (byte frame 11)))
+    ∷ []
+
+verdict-checks : (s : Shelf) (g : ℕ) (frame : List ℕ)
+    → resultCode (verdict s g frame) ≡ firstFailure (checks s g frame)
+unfolding verdict decide known
+verdict-checks s g frame = go (known (functionOf frame)) refl
+  where
+    go : (b : Bool) → known (functionOf frame) ≡ b → resultCode (verdict s g frame) ≡ firstFailure (checks s g frame)
+    go false e = rw e
+    go true e =
+        by-each (functionOf frame) (0x00 ∷ 0x01 ∷ 0x06 ∷ 0x11 ∷ 0x14 ∷ 0x91 ∷ 0x93 ∷ [])
+        (known-iff (functionOf frame) .0 (rw e tt)) (
+          λ f. rw (asked-00 frame f, f) (simp (check-map resultCode)),
+          (
+            λ f. rw (asked-01 frame f, f) (simp (check-map resultCode)),
+            (
+              λ f. rw (asked-06 frame f, f) (simp (check-map resultCode)),
+              (
+                λ f. rw (asked-11 frame f, f) (simp (check-map resultCode)),
+                (
+                  λ f. rw (asked-14 frame f, f) (simp (check-map resultCode)),
+                  (
+                    λ f. rw (asked-91 frame f, f) (simp (check-map resultCode)),
+                    (
+                      λ f. rw (asked-93 frame f, f) (simp (check-map resultCode)),
+                      tt,
+                    ),
+                  ),
+                ),
+              ),
+            ),
+          ),
+        )
+
+-- ---- each check passes exactly unless its failure is there
+
+only-for-iff : (functions frame : List ℕ) (test : Bool) {A : Type 0} → T test ↔ A
+    → (T (onlyFor functions frame test) → ⊥)
+    ↔ (Of functions frame × (A → ⊥))
+only-for-iff functions frame test f =
+    fails-under-iff (oneOf functions (functionOf frame)) test (oneOf-iff functions (functionOf frame)) f
+
+sources-iff : (frame : List ℕ)
+    → T (eqb (firstUnsupported frame (byte frame 11) 0) (byte frame 11))
+    ↔ SourcesAllowed frame
+sources-iff frame =
+    Iff·trans (eqb-iff (firstUnsupported frame (byte frame 11) 0) (byte frame 11))
+    (Iff·trans (none-unsupported frame (byte frame 11)) (
+      λ all i h. allowed-iff (descriptorSource frame i) .0 (all i h),
+      λ all i h. allowed-iff (descriptorSource frame i) .1 (all i h),
+    ))
+
+checks-tell : (s : Shelf) (g : ℕ) (frame : List ℕ) → Tell (checks s g frame) (failures s g frame)
+checks-tell s g frame = (
+  refl,
+  fails-iff (known (functionOf frame)) (known-iff (functionOf frame)),
+  (
+    refl,
+    fails-iff (lengthRight frame) (length-right frame),
+    (
+      refl,
+      only-for-iff (0x91 ∷ 0x93 ∷ []) frame (countRight s (word frame 4)) (count-right s (word frame 4)),
+      (
+        refl,
+        only-for-iff (0x11 ∷ 0x14 ∷ 0x91 ∷ 0x93 ∷ []) frame (exists s (byte frame 9)) (λ t. t, λ t. t),
+        (
+          refl,
+          only-for-iff (0x11 ∷ 0x14 ∷ []) frame (reaches s g (byte frame 9)) (λ t. t, λ t. t),
+          (
+            refl,
+            only-for-iff (0x91 ∷ 0x93 ∷ []) frame (reaches s g (byte frame 9)) (λ t. t, λ t. t),
+            (
+              refl,
+              only-for-iff (0x91 ∷ []) frame (knownOperation (byte frame 10)) (known-operation (byte frame 10)),
+              (
+                refl,
+                only-for-iff (0x06 ∷ []) frame (leb (byte frame 2) 0x0F) (leb-iff (byte frame 2) 0x0F),
+                (
+                  refl,
+                  only-for-iff (0x93 ∷ []) frame (leb (byte frame 11) 4) (leb-iff (byte frame 11) 4),
+                  (
+                    refl,
+                    only-for-iff (0x93 ∷ []) frame (eqb (firstUnsupported frame (byte frame 11) 0) (byte frame 11)) (sources-iff frame),
+                    tt,
+                  ),
+                ),
+              ),
+            ),
+          ),
+        ),
+      ),
+    ),
+  ),
+)
+
+-- The result of a request is the code of the first failure that is there, and 00h exactly if none is.
+pub verdict-drawn : (s : Shelf) (g : ℕ) (frame : List ℕ) (code : ℕ)
+    → (resultCode (verdict s g frame) ≡ code)
+    ↔ Draws (failures s g frame) code
+verdict-drawn s g frame code =
+    rw (verdict-checks s g frame) (draws-first (checks s g frame) (failures s g frame) (checks-tell s g frame) code)

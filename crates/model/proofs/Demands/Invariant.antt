@@ -1,0 +1,372 @@
+-- "Starting gives a shelf whose numbers fit, with at most 24 phys and groups below 32, and every operation keeps that."
+-- Assumes nothing.
+use Prim.Native.Nat.{ℕ, zero, suc, _+_, _≤_, _<_, zero-le}
+use native.Mathlib.Omega.{arith}
+use mathlib.Core.Path.{_≡_, refl, _∙_}
+use mathlib.Core.Bool.{Bool, true, false}
+use mathlib.Core.List.{List, [], _∷_, map}
+use borrow.Author.Tests.{ltb-true}
+use lib.Dec.{ltb, eqb}
+use lib.ListN.{length, getD, replicate, length-set, length-map}
+use Rattle.model.specs.declared.Monitor.{Monitor}
+use Rattle.model.specs.declared.Phy.{Phy}
+use Rattle.model.specs.declared.Shelf.{Shelf}
+use Rattle.model.specs.declared.Taken.the-variants.{Done}
+use Rattle.model.specs.Bytes.{byte, dword}
+use Rattle.model.specs.Counting.{addWrapping, addSaturating, counted, crosses, originateCrossings, addError}
+use Rattle.model.specs.Counting.{eventOn, changeOn}
+use Rattle.model.specs.Reply.{errorAt, monitorAt}
+use Rattle.model.specs.Runs.{Operation, Ask, Event, LinkChange, ReducedFunctionality, Ses, QueryReach, next, after}
+use Rattle.model.specs.Shelf.{phyAt, phyWith, freshMonitor, freshPhy}
+use Rattle.model.specs.Shelf.{startGroup, freshShelf, startTaken, start}
+use Rattle.model.specs.Sources.{peak}
+use Rattle.model.specs.Tests.{within}
+use Rattle.model.specs.Writes.{withoutErrors, controlled, setMonitor, setMonitors, setOn, clearMonitor}
+use Rattle.model.specs.Writes.{anyPeak, clearOn, configured}
+use Rattle.model.specs.Zone.{row}
+use Rattle.model.proofs.Laws.Join.{join-length}
+use Rattle.model.proofs.Laws.Places.{All, Each, change-at, map-at, replicate-each}
+use Rattle.model.proofs.Laws.Steps.{moved, Step, KeptBy, next-step, step-frame, step-phys, Counts, step-counts}
+use Rattle.model.proofs.Laws.Tests.{cond-by, cond-both}
+use Rattle.model.proofs.Plain.Counting.{originate-range}
+use Rattle.model.proofs.Plain.Shelf.{SameFrame}
+use Rattle.model.proofs.Plain.Start.{Startable, start-done, fresh-phys}
+use Rattle.model.proofs.Plain.Writes.{set-length}
+use Rattle.model.proofs.Plain.Zone.{LegalTable}
+
+-- ---- what it says
+
+-- every byte of a frame, or of an identifier, fits 8 bits (past the end stands 0)
+abbrev pub BytesFit : List ℕ → Type 0
+BytesFit bytes = (i : ℕ) → byte bytes i ≤ 0xFF
+
+-- "A monitor has an event source, a 32-bit value and a 32-bit threshold."
+pub record MonitorFits (m : Monitor) : Type 0 where
+  pub source : m .source ≤ 0xFF
+  pub value : m .value ≤ 0xFFFFFFFF
+  pub threshold : m .threshold ≤ 0xFFFFFFFF
+
+-- four error counts and four monitors that fit, and three 16-bit broadcast counts
+pub record PhyFits (x : Phy) : Type 0 where
+  pub group : x .group ≤ 0xFFFFFFFF
+  pub errors-size : length (x .errors) ≡ 4
+  pub errors : (i : ℕ) → errorAt x i ≤ 0xFFFFFFFF
+  pub monitors-size : length (x .monitors) ≡ 4
+  pub monitors : (i : ℕ) → MonitorFits (monitorAt x i)
+  pub change0 : x .change0 ≤ 0xFFFF
+  pub expander1 : x .expander1 ≤ 0xFFFF
+  pub expander2 : x .expander2 ≤ 0xFFFF
+
+-- what the types of the record say: the sizes of its arrays, and the widths of its numbers
+pub record Fits (s : Shelf) : Type 0 where
+  pub number : s .number ≤ 0xFFFFFFFF
+  pub phys-size : length (s .phys) ≡ 24
+  pub phys : (p : ℕ) → p < 24 → PhyFits (phyAt s p)
+  pub table-size : length (s .table) ≡ 32
+  pub table : (g : ℕ) → row (s .table) g ≤ 0xFFFFFFFF
+  pub identifier-size : length (s .identifier) ≡ 8
+  pub identifier : BytesFit (s .identifier)
+  pub changes : s .changes ≤ 0xFFFF
+  pub expander3 : s .expander3 ≤ 0xFFFF
+  pub ses0 : s .ses0 ≤ 0xFFFF
+
+-- The invariant: every number fits, "1 to 24 phys", "Zone groups 0 to 31", the table is legal, and "0000h, the forcing
+-- value, is never a present count".
+pub record Sound (s : Shelf) : Type 0 where
+  pub fits : Fits s
+  pub number : (1 ≤ s .number) × (s .number ≤ 24)
+  pub groups : (p : ℕ) → p < 24 → phyAt s p .group ≤ 31
+  pub legal : LegalTable (s .table)
+  pub present : 1 ≤ s .changes
+
+-- the sizes and widths of the table and the identifier that a start is given
+pub record StartFits (table identifier : List ℕ) : Type 0 where
+  pub table-size : length table ≡ 32
+  pub table-fits : (g : ℕ) → row table g ≤ 0xFFFFFFFF
+  pub identifier-size : length identifier ≡ 8
+  pub identifier-fits : BytesFit identifier
+
+-- the widths of what an operation is given: a frame's bytes, and "a 32-bit amount" (other numbers are compared, never kept)
+abbrev pub OperationFits : Operation → Type 0
+OperationFits (Ask g frame out) = BytesFit frame
+OperationFits (Event p source amount) = amount ≤ 0xFFFFFFFF
+OperationFits (LinkChange p) = Unit {0}
+OperationFits ReducedFunctionality = Unit {0}
+OperationFits Ses = Unit {0}
+OperationFits (QueryReach g) = Unit {0}
+
+-- ---- counts
+
+moved-fits : (b : Bool) (count : ℕ) → count ≤ 0xFFFF → moved b count ≤ 0xFFFF
+moved-fits b count h = cond-both (λ n. n ≤ 0xFFFF) b _ _ (originate-range count h .1) h
+
+moved-present : (b : Bool) (count : ℕ) → count ≤ 0xFFFF → 1 ≤ count → 1 ≤ moved b count
+moved-present b count h some = cond-both (λ n. 1 ≤ n) b _ _ (originate-range count h .0) some
+
+crossings-fit : (source amount : ℕ) (ms : List Monitor) (count : ℕ) → count ≤ 0xFFFF
+    → originateCrossings source amount ms count ≤ 0xFFFF
+unfolding originateCrossings
+crossings-fit source amount [] count h = h
+crossings-fit source amount (m ∷ ms) count h =
+    crossings-fit source amount ms _ (moved-fits (crosses m (counted source amount m .value)) count h)
+
+-- ---- the four error counts
+
+abbrev ErrorsFit : List ℕ → Type 0
+ErrorsFit errors = (length errors ≡ 4) × Each (λ n. n ≤ 0xFFFFFFFF) 0 errors
+
+no-errors-fit : ErrorsFit (replicate 4 0)
+no-errors-fit = (refl, replicate-each (λ n. n ≤ 0xFFFFFFFF) 0 4 (omega arith))
+
+add-error-fits : (source amount : ℕ) (errors : List ℕ) → ErrorsFit errors → ErrorsFit (addError source amount errors)
+unfolding addError addSaturating
+add-error-fits source amount errors f =
+    cond-both ErrorsFit (within 0x01 0x04 source) _ _ (
+      rw length-set (f .0),
+      λ i. change-at (λ n. n ≤ 0xFFFFFFFF) 0 (λ n. addSaturating n amount) (λ n h. omega arith) errors _ i (f .1 i),
+    )
+    f
+
+-- ---- the four monitors
+
+abbrev MonitorsFit : List Monitor → Type 0
+MonitorsFit ms = (length ms ≡ 4) × Each MonitorFits freshMonitor ms
+
+map-fits : (h : Monitor → Monitor) → ((m : Monitor) → MonitorFits m → MonitorFits (h m)) → (ms : List Monitor)
+    → MonitorsFit ms → MonitorsFit (map h ms)
+map-fits h keeps ms f = (rw length-map (f .0), λ i. map-at MonitorFits freshMonitor h keeps ms i (f .1 i))
+
+counted-fits : (source amount : ℕ) → amount ≤ 0xFFFFFFFF → (m : Monitor) → MonitorFits m
+    → MonitorFits (counted source amount m)
+unfolding counted addWrapping
+counted-fits source amount h m f =
+    cond-both MonitorFits (eqb (m .source) source) _ _
+    (record {
+      source = f .source;
+      value = cond-both (λ n. n ≤ 0xFFFFFFFF) (peak source) _ _ (omega arith) (omega arith);
+      threshold = f .threshold;
+    })
+    f
+
+clear-fits : (m : Monitor) → MonitorFits m → MonitorFits (clearMonitor m)
+unfolding clearMonitor
+clear-fits m f = cond-both MonitorFits (peak (m .source)) _ _ (omega arith) f
+
+-- those that a 93h sets, from a frame whose bytes fit
+module _ (frame : List ℕ) (fit : BytesFit frame) where
+  dword-fits : (i : ℕ) → dword frame i ≤ 0xFFFFFFFF
+  dword-fits i = omega (arith, fit i, fit (i + 1), fit (i + 2), fit (i + 2 + 1))
+
+  set-monitor-fits : (i : ℕ) (m : Monitor) → MonitorFits m → MonitorFits (setMonitor frame i m)
+  unfolding setMonitor
+  set-monitor-fits i m f =
+      record {
+        source = fit _;
+        value = cond-both (λ n. n ≤ 0xFFFFFFFF) (eqb (m .source) _) _ _ (f .value) (omega arith);
+        threshold = dword-fits _;
+      }
+
+  set-at : (d i : ℕ) (ms : List Monitor) (j : ℕ) → MonitorFits (getD ms j freshMonitor)
+      → MonitorFits (getD (setMonitors frame d i ms) j freshMonitor)
+  unfolding setMonitors
+  set-at d i [] j here = here
+  set-at d i (m ∷ ms) zero here = cond-both MonitorFits (ltb i d) _ _ (set-monitor-fits i m here) here
+  set-at d i (m ∷ ms) (suc j) here = set-at d (suc i) ms j here
+
+  set-fits : (d : ℕ) (ms : List Monitor) → MonitorsFit ms → MonitorsFit (setMonitors frame d 0 ms)
+  set-fits d ms f = (set-length frame d 0 ms ∙ f .0, λ j. set-at d 0 ms j (f .1 j))
+
+-- ---- one phy
+
+-- x became y: its numbers fit if they did, and its group is the same
+abbrev Kept : Phy → Phy → Type 0
+Kept x y = (PhyFits x → PhyFits y) × (y .group ≡ x .group)
+
+kept-same : (x : Phy) → Kept x x
+kept-same x = (λ f. f, refl)
+
+kept-then : (x y z : Phy) → Kept x y → Kept y z → Kept x z
+kept-then x y z first second = (λ f. second .0 (first .0 f), second .1 ∙ first .1)
+
+-- other numbers in it, from what each keeps
+kept-with : (x : Phy) {enabled : Bool} {errors : List ℕ} {ms : List Monitor} {change0 expander1 expander2 : ℕ}
+    → (ErrorsFit (x .errors) → ErrorsFit errors)
+    → (MonitorsFit (x .monitors) → MonitorsFit ms)
+    → (x .change0 ≤ 0xFFFF → change0 ≤ 0xFFFF)
+    → (x .expander1 ≤ 0xFFFF → expander1 ≤ 0xFFFF)
+    → (x .expander2 ≤ 0xFFFF → expander2 ≤ 0xFFFF)
+    → Kept x (phyWith x enabled errors ms change0 expander1 expander2)
+kept-with x es fs c0 e1 e2 = (
+  λ f.
+      record {
+        group = f .group;
+        errors-size = es (f .errors-size, f .errors) .0;
+        errors = es (f .errors-size, f .errors) .1;
+        monitors-size = fs (f .monitors-size, f .monitors) .0;
+        monitors = fs (f .monitors-size, f .monitors) .1;
+        change0 = c0 (f .change0);
+        expander1 = e1 (f .expander1);
+        expander2 = e2 (f .expander2);
+      },
+  refl,
+)
+
+event-keeps : (source amount : ℕ) → amount ≤ 0xFFFFFFFF → (x : Phy) → Kept x (eventOn source amount x)
+unfolding eventOn
+event-keeps source amount h x =
+    kept-with x (add-error-fits source amount (x .errors))
+    (map-fits (counted source amount) (counted-fits source amount h) (x .monitors))
+    (λ f. f)
+    (crossings-fit source amount (x .monitors) (x .expander1))
+    (λ f. f)
+
+change-keeps : (enabled : Bool) (x : Phy) → Kept x (changeOn enabled x)
+unfolding changeOn
+change-keeps enabled x =
+    kept-with x (λ f. f) (λ f. f) (moved-fits true (x .change0)) (λ f. f) (λ f. f)
+
+without-errors-keeps : (x : Phy) → Kept x (withoutErrors x)
+without-errors-keeps x = kept-with x (λ f. no-errors-fit) (λ f. f) (λ f. f) (λ f. f) (λ f. f)
+
+control-keeps : (operation : ℕ) (x : Phy) → Kept x (controlled operation x)
+unfolding controlled
+control-keeps operation x =
+    cond-both (Kept x) (eqb operation 0x01) _ _ (change-keeps true x)
+    (cond-both (Kept x) (eqb operation 0x03) _ _ (cond-both (Kept x) (x .enabled) _ _ (change-keeps false x) (kept-same x))
+    (cond-both (Kept x) (eqb operation 0x05) _ _ (without-errors-keeps x)
+    (kept-same x)))
+
+set-keeps : (frame : List ℕ) → BytesFit frame → (d : ℕ) (x : Phy) → Kept x (setOn frame d x)
+set-keeps frame fit d x =
+    kept-with x (λ f. f) (set-fits frame fit d (x .monitors)) (λ f. f) (λ f. f) (λ f. f)
+
+clear-keeps : (x : Phy) → Kept x (clearOn x)
+clear-keeps x =
+    kept-with x (λ f. f) (map-fits clearMonitor clear-fits (x .monitors)) (λ f. f) (λ f. f)
+    (moved-fits (anyPeak (x .monitors)) (x .expander2))
+
+configure-keeps : (frame : List ℕ) → BytesFit frame → (d : ℕ) (clear : Bool) (x : Phy)
+    → Kept x (configured frame d clear x)
+unfolding configured
+configure-keeps frame fit d clear x =
+    let set : Kept x (setOn frame d x) = set-keeps frame fit d x in
+    cond-both (Kept x) clear _ _ (kept-then x _ _ set (clear-keeps (setOn frame d x))) set
+
+-- ---- every operation keeps it
+
+-- what each change of a phy keeps
+abbrev KeepsFit : (Phy → Phy) → Type 0
+KeepsFit f = (x : Phy) → Kept x (f x)
+
+fit-kept : (operation : Operation) → OperationFits operation → KeptBy KeepsFit operation
+fit-kept (Ask g frame out) fit = (control-keeps, configure-keeps frame fit)
+fit-kept (Event p source amount) fit = event-keeps source amount fit
+fit-kept (LinkChange p) fit = λ x. change-keeps (x .enabled) x
+fit-kept ReducedFunctionality fit = tt
+fit-kept Ses fit = tt
+fit-kept (QueryReach g) fit = tt
+
+moved-fits′ : (before after : ℕ) → (b : Bool) × (after ≡ moved b before) → before ≤ 0xFFFF → after ≤ 0xFFFF
+moved-fits′ before after (b, e) h = rw e (moved-fits b before h)
+
+module _ (s t : Shelf) (step : Step KeepsFit s t) where
+  kept-phys : (p : ℕ) → Kept (phyAt s p) (phyAt t p)
+  kept-phys = step-phys KeepsFit Kept kept-same (λ f keeps x y kept. kept-then x y (f y) kept (keeps y)) s t step
+
+  step-fits : Fits s → Fits t
+  step-fits f =
+      let frame : SameFrame s t = step-frame KeepsFit s t step in
+      let counts : Counts s t = step-counts KeepsFit s t step in
+      record {
+        number = rw (frame .number) (f .number);
+        phys-size = counts .size ∙ f .phys-size;
+        phys = λ p below. kept-phys p .0 (f .phys p below);
+        table-size = rw (frame .table) (f .table-size);
+        table = rw (frame .table) (f .table);
+        identifier-size = rw (frame .identifier) (f .identifier-size);
+        identifier = rw (frame .identifier) (f .identifier);
+        changes = moved-fits′ (s .changes) (t .changes) (counts .changes) (f .changes);
+        expander3 = moved-fits′ (s .expander3) (t .expander3) (counts .expander3) (f .expander3);
+        ses0 = moved-fits′ (s .ses0) (t .ses0) (counts .ses0) (f .ses0);
+      }
+
+  step-present : Fits s → 1 ≤ s .changes → 1 ≤ t .changes
+  step-present f some =
+      let (b, e) = step-counts KeepsFit s t step .changes in
+      rw e (moved-present b (s .changes) (f .changes) some)
+
+pub next-fits : (s : Shelf) (o : Operation) → OperationFits o → Fits s → Fits (next s o)
+next-fits s o fit = step-fits s (next s o) (next-step KeepsFit s o (fit-kept o fit))
+
+pub next-sound : (s : Shelf) (o : Operation) → OperationFits o → Sound s → Sound (next s o)
+next-sound s o fit sound =
+    let step : Step KeepsFit s (next s o) = next-step KeepsFit s o (fit-kept o fit) in
+    let frame : SameFrame s (next s o) = step-frame KeepsFit s (next s o) step in
+    record {
+      fits = step-fits s (next s o) step (sound .fits);
+      number = rw (frame .number) (sound .number);
+      groups = λ p below. rw (kept-phys s (next s o) step p .1) (sound .groups p below);
+      legal = rw (frame .table) (sound .legal);
+      present = step-present s (next s o) step (sound .fits) (sound .present);
+    }
+
+-- a sequence, all of whose operations fit
+abbrev pub AllFit : List Operation → Type 0
+AllFit operations = All OperationFits operations
+
+pub after-sound : (s : Shelf) (operations : List Operation) → AllFit operations → Sound s → Sound (after s operations)
+unfolding after
+after-sound s [] fit sound = sound
+after-sound s (operation ∷ operations) fit sound =
+    after-sound (next s operation) operations (fit .1) (next-sound s operation (fit .0) sound)
+
+-- ---- a start gives it
+
+start-group-fits : (n : ℕ) (groups : List ℕ) → ((p : ℕ) → p < n → getD groups p 0 ≤ 31) → (p : ℕ)
+    → startGroup n groups p ≤ 31
+start-group-fits n groups fit p = cond-by (λ g. g ≤ 31) (ltb p n) _ _ (λ e. fit p (ltb-true p n e)) (λ e. zero-le)
+
+fresh-fits : (g : ℕ) → g ≤ 31 → PhyFits (freshPhy g)
+fresh-fits g h =
+    record {
+      group = omega arith;
+      errors-size = no-errors-fit .0;
+      errors = no-errors-fit .1;
+      monitors-size = refl;
+      monitors = replicate-each MonitorFits freshMonitor 4 (omega arith);
+      change0 = omega arith;
+      expander1 = omega arith;
+      expander2 = omega arith;
+    }
+
+fresh-sound : (n : ℕ) (groups table identifier : List ℕ) → StartFits table identifier → Startable n groups table
+    → Sound (freshShelf n groups table identifier)
+unfolding freshShelf
+fresh-sound n groups table identifier fit can =
+    let group : (p : ℕ) → startGroup n groups p ≤ 31 = start-group-fits n groups (can .groups-fit) in
+    record {
+      fits =
+          record {
+            number = omega arith;
+            phys-size = join-length 24 (λ p. freshPhy (startGroup n groups p));
+            phys = λ p below.
+                rw (fresh-phys n groups table identifier p below) (fresh-fits (startGroup n groups p) (group p));
+            table-size = fit .table-size;
+            table = fit .table-fits;
+            identifier-size = fit .identifier-size;
+            identifier = fit .identifier-fits;
+            changes = omega arith;
+            expander3 = omega arith;
+            ses0 = omega arith;
+          };
+      number = can .number;
+      groups = λ p below. rw (fresh-phys n groups table identifier p below) (group p);
+      legal = can .legal;
+      present = omega arith;
+    }
+
+pub start-sound : (n : ℕ) (groups table identifier : List ℕ) → StartFits table identifier
+    → startTaken n groups table ≡ Done → Sound (start n groups table identifier .shelf)
+unfolding start
+start-sound n groups table identifier fit done =
+    rw done (fresh-sound n groups table identifier fit (start-done n groups table .0 done))
