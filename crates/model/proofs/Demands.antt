@@ -2,7 +2,8 @@
 
 -- demands 1 and 2: the house refusals, the function results, the writes' effects, the response frames, and what every operation keeps
 pub mod Refusals
-pub mod Failures
+pub mod Results
+pub mod Writes
 pub mod Effects
 pub mod Frames
 pub mod Invariant

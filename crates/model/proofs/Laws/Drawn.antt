@@ -14,11 +14,6 @@ abbrev pub Draws : List (ℕ × Type 0) → ℕ → Type 0
 Draws [] code = code ≡ 0x00
 Draws (failure ∷ rest) code = (failure .1 × (code ≡ failure .0)) ⊎ ((failure .1 → ⊥) × Draws rest code)
 
--- none of them is there
-abbrev pub NoneOf : List (ℕ × Type 0) → Type 0
-NoneOf [] = Unit {0}
-NoneOf (failure ∷ rest) = (failure .1 → ⊥) × NoneOf rest
-
 -- ---- A row of checks that pass unless these failures are there draws these codes.
 
 abbrev pub firstFailure : List (ℕ × Bool) → ℕ
@@ -47,16 +42,19 @@ draws-first ((c, false) ∷ tests) (failure ∷ rest) tell code =
     let there : failure .1 = tell .1 .0 (λ t. t) in
     (λ e. inl (there, sym e ∙ tell .0), ⊎-elim (λ h. tell .0 ∙ sym (h .1)) (λ h. absurd (h .0 there)))
 
--- ---- 00h is drawn exactly if none is there, where no failure has the code 00h.
+-- ---- 00h is drawn exactly if every check passes, where none has the code 00h.
 
-abbrev pub Coded : List (ℕ × Type 0) → Type 0
+abbrev pub AllPass : List (ℕ × Bool) → Type 0
+AllPass [] = Unit {0}
+AllPass (test ∷ tests) = T (test .1) × AllPass tests
+
+abbrev pub Coded : List (ℕ × Bool) → Type 0
 Coded [] = Unit {0}
-Coded (failure ∷ rest) = (1 ≤ failure .0) × Coded rest
+Coded (test ∷ tests) = (1 ≤ test .0) × Coded tests
 
-pub draws-none : (failures : List (ℕ × Type 0)) → Coded failures → Draws failures 0x00 ↔ NoneOf failures
-draws-none [] coded = (λ e. tt, λ n. refl)
-draws-none (failure ∷ rest) coded =
-    let later = draws-none rest (coded .1) in (
-      ⊎-elim (λ h. absurd (omega (arith, coded .0, h .1))) (λ h. (h .0, later .0 (h .1))),
-      λ n. inr (n .0, later .1 (n .1)),
-    )
+pub passes-all : (tests : List (ℕ × Bool)) → Coded tests → (firstFailure tests ≡ 0x00) ↔ AllPass tests
+passes-all [] coded = (λ e. tt, λ all. refl)
+passes-all ((c, true) ∷ tests) coded =
+    let later = passes-all tests (coded .1) in
+    (λ e. (tt, later .0 e), λ all. later .1 (all .1))
+passes-all ((c, false) ∷ tests) coded = (λ e. absurd (omega (arith, coded .0)), λ all. absurd (all .0))

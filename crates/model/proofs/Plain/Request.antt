@@ -5,7 +5,7 @@ use native.Mathlib.Nat.{eq-or-lt-of-le, not-le-of-lt}
 use native.Mathlib.Omega.{arith}
 use mathlib.Core.Path.{_≡_, refl, subst}
 use mathlib.Core.Logic.{_↔_, _⊎_, ⊎-elim}
-use mathlib.Core.Bool.{Bool, true, false, not, cond, _||_, or-assoc}
+use mathlib.Core.Bool.{Bool, true, false, not, cond, _&&_, _||_, or-assoc, or-false}
 use mathlib.Core.List.{List, [], _∷_, List·Memᴰ}
 use lib.Dec.{T, ltb, eqb}
 use lib.ListN.{length}
@@ -18,7 +18,7 @@ use Rattle.model.specs.Request.{firstUnsupported}
 use Rattle.model.specs.Sources.{supported}
 use Rattle.model.specs.Tests.{oneOf}
 use Rattle.model.specs.Zone.{bit}
-use Rattle.model.proofs.Laws.Tests.{denied-iff, all-three-iff, either-iff, ltb-iff, eqb-iff, oneOf-iff}
+use Rattle.model.proofs.Laws.Tests.{denied-iff, both-iff, all-three-iff, either-iff, ltb-iff, eqb-iff, oneOf-iff}
 
 -- H6: under four bytes, or the first is not 40h
 pub bad-frame : (frame : List ℕ) → T (badFrame frame) ↔ ((length frame < 4) ⊎ (byte frame 0 ≡ 0x40 → ⊥))
@@ -85,6 +85,27 @@ length-right frame =
     (shaped-iff frame 0x14 12 (0x02 ∷ []))
     (shaped-iff frame 0x91 40 (0x09 ∷ 0x00 ∷ []))
     (shaped-iff frame 0x93 (12 + 8 * byte frame 11) ((2 + 2 * byte frame 11) ∷ []))
+
+-- of the two writes: a 91h, and a 93h
+module _ (frame : List ℕ) where
+  size-iff : (size : ℕ) (lengths : List ℕ)
+      → T (eqb (length frame) size && oneOf lengths (byte frame 3))
+      ↔ ((length frame ≡ size) × List·Memᴰ (byte frame 3) lengths)
+  size-iff size lengths =
+      both-iff (eqb (length frame) size) (oneOf lengths (byte frame 3)) (eqb-iff (length frame) size) (oneOf-iff lengths (byte frame 3))
+
+  pub right-length-91 : functionOf frame ≡ 0x91
+      → T (lengthRight frame)
+      ↔ ((length frame ≡ 40) × List·Memᴰ (byte frame 3) (0x09 ∷ 0x00 ∷ []))
+  unfolding lengthRight
+  right-length-91 e =
+      rw (e, or-false (eqb (length frame) 40 && oneOf (0x09 ∷ 0x00 ∷ []) (byte frame 3))) (size-iff 40 (0x09 ∷ 0x00 ∷ []))
+
+  pub right-length-93 : functionOf frame ≡ 0x93
+      → T (lengthRight frame)
+      ↔ ((length frame ≡ 12 + 8 * byte frame 11) × List·Memᴰ (byte frame 3) ((2 + 2 * byte frame 11) ∷ []))
+  unfolding lengthRight
+  right-length-93 e = rw e (size-iff (12 + 8 * byte frame 11) ((2 + 2 * byte frame 11) ∷ []))
 
 -- ---- what is asked, by the function
 

@@ -1,21 +1,31 @@
 -- Demands 1 and 2, the function results: document 01's list, when each failure is there, on the frame's bytes; the first of them in the
 -- document's order decides; and what a failed result leaves. Assumes nothing.
 use Prim.Native.Nat.{ℕ, _≤_, _<_}
-use mathlib.Core.Path.{_≡_, refl}
+use native.Mathlib.Omega.{arith}
+use mathlib.Core.Path.{_≡_, refl, sym, ap, _∙_}
 use mathlib.Core.Logic.{_↔_, _⊎_, Iff·trans}
 use mathlib.Core.Bool.{Bool, true, false, not, _||_}
-use mathlib.Core.List.{List, [], _∷_, List·Memᴰ}
-use lib.Dec.{T, leb, eqb}
+use mathlib.Core.List.{List, [], _∷_, _++_, List·Memᴰ}
+use borrow.Author.Tests.{eqb-true, eq-eqb, ne-eqb}
+use lib.Dec.{T, leb, ltb, eqb}
+use lib.ListN.{length, drop, List·getD-append}
 use Rattle.model.specs.declared.Shelf.{Shelf}
+use Rattle.model.specs.declared.Answer.the-variants.{Response}
+use Rattle.model.specs.declared.House.the-variants.{SourceGroup, ShortBuffer, BadFrame}
 use Rattle.model.specs.Bytes.{byte, word}
+use Rattle.model.specs.House.{answerNumber}
 use Rattle.model.specs.Reach.{reaches}
-use Rattle.model.specs.Request.{functionOf, known, lengthRight, descriptorSource, firstUnsupported}
-use Rattle.model.specs.Results.{resultCode, countRight, knownOperation, decide}
+use Rattle.model.specs.Request.{badFrame, functionOf, asked, known, lengthRight, descriptorSource, firstUnsupported}
+use Rattle.model.specs.Reply.{failed, respond}
+use Rattle.model.specs.Server.{Handled, Sends, refuse, answer, lent, handle, served, lentAfter}
+use Rattle.model.specs.Writes.{effect}
+use Rattle.model.specs.Results.{resultCode, accepted, countRight, knownOperation, decide}
 use Rattle.model.specs.Shelf.{exists}
 use Rattle.model.specs.Sources.{supported}
-use Rattle.model.specs.Tests.{oneOf}
-use Rattle.model.proofs.Laws.Drawn.{Draws, firstFailure, Tell, draws-first}
-use Rattle.model.proofs.Laws.Handled.{verdict}
+use Rattle.model.specs.Tests.{given, oneOf}
+use Rattle.model.proofs.Laws.Drawn.{Draws, firstFailure, Tell, draws-first, AllPass, passes-all}
+use Rattle.model.proofs.Demands.Frames.{Framed, requestFunction, respond-framed}
+use Rattle.model.proofs.Laws.Handled.{verdict, granted, concluded, handled, concluded-all}
 use Rattle.model.proofs.Laws.Tests.{fails-iff, fails-under-iff, leb-iff, eqb-iff, oneOf-iff, by-each, check-map}
 use Rattle.model.proofs.Plain.Request.{RightLength, known-iff, asked-00, asked-01, asked-06, asked-11, asked-14}
 use Rattle.model.proofs.Plain.Request.{asked-91, asked-93, length-right, allowed-iff, none-unsupported}
@@ -57,10 +67,10 @@ failures s g frame =
 -- ---- the same as checks
 
 -- passes, if the function is none of these, or the test holds
-abbrev onlyFor : List ℕ → List ℕ → Bool → Bool
+abbrev pub onlyFor : List ℕ → List ℕ → Bool → Bool
 onlyFor functions frame test = not (oneOf functions (functionOf frame)) || test
 
-abbrev checks : Shelf → ℕ → List ℕ → List (ℕ × Bool)
+abbrev pub checks : Shelf → ℕ → List ℕ → List (ℕ × Bool)
 checks s g frame =
     (0x01, known (functionOf frame))
     ∷ (0x03, lengthRight frame)
@@ -114,7 +124,7 @@ only-for-iff : (functions frame : List ℕ) (test : Bool) {A : Type 0} → T tes
 only-for-iff functions frame test f =
     fails-under-iff (oneOf functions (functionOf frame)) test (oneOf-iff functions (functionOf frame)) f
 
-sources-iff : (frame : List ℕ)
+pub sources-iff : (frame : List ℕ)
     → T (eqb (firstUnsupported frame (byte frame 11) 0) (byte frame 11))
     ↔ SourcesAllowed frame
 sources-iff frame =
@@ -173,3 +183,94 @@ pub verdict-drawn : (s : Shelf) (g : ℕ) (frame : List ℕ) (code : ℕ)
     ↔ Draws (failures s g frame) code
 verdict-drawn s g frame code =
     rw (verdict-checks s g frame) (draws-first (checks s g frame) (failures s g frame) (checks-tell s g frame) code)
+
+-- A request is accepted exactly if every check passes.
+pub verdict-accepted : (s : Shelf) (g : ℕ) (frame : List ℕ)
+    → (resultCode (verdict s g frame) ≡ 0x00)
+    ↔ AllPass (checks s g frame)
+verdict-accepted s g frame =
+    rw (verdict-checks s g frame)
+    (passes-all (checks s g frame)
+    (omega arith, (omega arith, (omega arith, (omega arith, (omega arith, (omega arith, (omega arith, (omega arith, (omega arith, (omega arith, tt)))))))))))
+
+-- ---- On the lent buffer: a request that draws no house refusal
+
+abbrev pub NotRefused : Shelf → ℕ → List ℕ → List ℕ → Type 0
+NotRefused s g frame out = answerNumber (served s g frame out .answer) ≡ 0
+
+not-refused : (s : Shelf) (g : ℕ) (frame out : List ℕ) → NotRefused s g frame out
+    → handle s g frame (length out) ≡ concluded s g frame
+unfolding served
+not-refused s g frame out = rw (handled s g frame (length out)) (go (ltb 31 g) (ltb (length out) 1028) (badFrame frame))
+  where
+    go : (a b c : Bool)
+        → (let h : Handled =
+        given a (refuse s SourceGroup)
+        (given b (refuse s ShortBuffer)
+        (given c (refuse s BadFrame)
+        (concluded s g frame))) in
+        answerNumber (answer (h .reply)) ≡ 0 → h ≡ concluded s g frame)
+    go true b c e = absurd (omega arith)
+    go false true c e = absurd (omega arith)
+    go false false true e = absurd (omega arith)
+    go false false false e = refl
+
+-- byte 2 has the result
+pub result-byte : (s : Shelf) (g : ℕ) (frame out : List ℕ) → NotRefused s g frame out
+    → byte (lentAfter s g frame out) 2 ≡ resultCode (verdict s g frame)
+unfolding lentAfter
+result-byte s g frame out answered =
+    rw (not-refused s g frame out answered)
+    (concluded-all (λ h. byte (lent out (h .reply)) 2 ≡ resultCode (verdict s g frame)) s g frame refl
+    (λ e.
+    let bytes : List ℕ = respond s g (asked frame) in
+    let framed : Framed (requestFunction (asked frame)) 0x00 bytes = respond-framed s g (asked frame) in
+    List·getD-append bytes (drop (length bytes) out) 0x00 2 (omega arith)
+    ∙ framed .byte-2
+    ∙ sym (eqb-true (resultCode (verdict s g frame)) 0x00 e)))
+
+-- For each code, exactly when it is drawn: when its failure is there and none before it in the list is; and 00h when none is.
+pub result-drawn : (s : Shelf) (g : ℕ) (frame out : List ℕ) → NotRefused s g frame out → (code : ℕ)
+    → (byte (lentAfter s g frame out) 2 ≡ code)
+    ↔ Draws (failures s g frame) code
+result-drawn s g frame out answered code =
+    rw (result-byte s g frame out answered) (verdict-drawn s g frame code)
+
+-- "A failed response is 41h, the function, the result, 00h. The buffer past any response is unchanged", and so is the shelf.
+pub record Failed (s : Shelf) (g : ℕ) (frame out : List ℕ) (code : ℕ) : Type 0 where
+  pub told : served s g frame out .answer ≡ Response 4
+  pub left : lentAfter s g frame out ≡ 0x41 ∷ functionOf frame ∷ code ∷ 0x00 ∷ drop 4 out
+  pub stays : served s g frame out .shelf ≡ s
+
+pub failed-result : (s : Shelf) (g : ℕ) (frame out : List ℕ) (code : ℕ) → NotRefused s g frame out
+    → byte (lentAfter s g frame out) 2 ≡ code → 1 ≤ code → Failed s g frame out code
+unfolding served lentAfter
+failed-result s g frame out code answered drawn some =
+    let result : resultCode (verdict s g frame) ≡ code = sym (result-byte s g frame out answered) ∙ drawn in
+    let failing : accepted (verdict s g frame) ≡ false = ne-eqb (resultCode (verdict s g frame)) 0x00 (λ e. omega arith) in
+    let whole : handle s g frame (length out) ≡ record { reply = Sends (failed (functionOf frame) code); shelf = s } =
+    not-refused s g frame out answered ∙ rw (failing, result) in
+    record {
+      told = ap (λ h. answer (h .reply)) whole;
+      left = ap (λ h. lent out (h .reply)) whole;
+      stays = ap (λ h. h .shelf) whole;
+    }
+
+-- An accepted request has its response at the front of the buffer, and its effect.
+pub record Granted (s : Shelf) (g : ℕ) (frame out : List ℕ) : Type 0 where
+  pub told : served s g frame out .answer ≡ Response (length (respond s g (asked frame)))
+  pub left : lentAfter s g frame out ≡ respond s g (asked frame) ++ drop (length (respond s g (asked frame))) out
+  pub moves : served s g frame out .shelf ≡ effect s frame (asked frame)
+
+pub granted-result : (s : Shelf) (g : ℕ) (frame out : List ℕ) → NotRefused s g frame out
+    → byte (lentAfter s g frame out) 2 ≡ 0x00 → Granted s g frame out
+unfolding served lentAfter
+granted-result s g frame out answered drawn =
+    let passing : accepted (verdict s g frame) ≡ true =
+    eq-eqb (resultCode (verdict s g frame)) 0x00 (sym (result-byte s g frame out answered) ∙ drawn) in
+    let whole : handle s g frame (length out) ≡ granted s g frame = not-refused s g frame out answered ∙ rw passing in
+    record {
+      told = ap (λ h. answer (h .reply)) whole;
+      left = ap (λ h. lent out (h .reply)) whole;
+      moves = ap (λ h. h .shelf) whole;
+    }

@@ -1,0 +1,188 @@
+-- Demand 2, the writes: "A write that draws no house refusal takes its full effect exactly when its length, count, phy, zone and contents
+-- all pass, and otherwise has no effect at all." And reads never change the shelf. Assumes nothing.
+use Prim.Native.Nat.{ℕ, _+_, _*_, _≤_, _<_}
+use native.Mathlib.Omega.{arith}
+use mathlib.Core.Path.{_≡_, refl, subst⁻¹}
+use mathlib.Core.Logic.{_↔_, Iff·trans}
+use mathlib.Core.List.{List, [], _∷_, List·Memᴰ, List·Memᴰ·head, List·Memᴰ·tail}
+use lib.Dec.{T}
+use lib.ListN.{length}
+use Rattle.model.specs.declared.Shelf.{Shelf}
+use Rattle.model.specs.Bytes.{byte, word}
+use Rattle.model.specs.Reach.{reaches}
+use Rattle.model.specs.Writes.{effect}
+use Rattle.model.specs.Request.{functionOf, asked, known}
+use Rattle.model.specs.Server.{served, lentAfter}
+use Rattle.model.specs.Shelf.{exists}
+use Rattle.model.proofs.Demands.Effects.{Controlled, controlled-effect, Configured, configured-effect}
+use Rattle.model.proofs.Demands.Invariant.{Fits}
+use Rattle.model.proofs.Demands.Results.{Of, SourcesAllowed, NotRefused, checks, verdict-accepted, result-byte, sources-iff}
+use Rattle.model.proofs.Demands.Results.{failed-result, granted-result}
+use Rattle.model.proofs.Laws.Drawn.{AllPass}
+use Rattle.model.proofs.Laws.Handled.{handled-all, accepted-decided}
+use Rattle.model.proofs.Laws.Tests.{leb-iff, by-each}
+use Rattle.model.proofs.Plain.Reach.{exists-iff}
+use Rattle.model.proofs.Plain.Request.{known-iff, asked-00, asked-01, asked-06, asked-11, asked-14, asked-91}
+use Rattle.model.proofs.Plain.Request.{asked-93}
+use Rattle.model.proofs.Plain.Request.{right-length-91, right-length-93}
+use Rattle.model.proofs.Plain.Results.{count-right, known-operation}
+
+-- length, count, phy, zone and contents all pass
+pub record Passes (s : Shelf) (g : ℕ) (frame : List ℕ) (size : ℕ) (lengths : List ℕ) (Contents : Type 0) : Type 0 where
+  -- "request 40 bytes, length 09h or 00h" (91h), "request 12 + 8d bytes, length 2 + 2d, d in byte 11" (93h)
+  pub true-length : length frame ≡ size
+  pub byte-3 : List·Memᴰ (byte frame 3) lengths
+  -- bytes 4 and 5 are 0000h or the present count
+  pub count : List·Memᴰ (word frame 4) (0x0000 ∷ s .changes ∷ [])
+  -- byte 9 names a phy that exists, and that the source reaches
+  pub phy : T (exists s (byte frame 9))
+  pub zone : T (reaches s g (byte frame 9))
+  pub contents : Contents
+
+-- 91h: the operation in byte 10 is one of the four
+abbrev pub ControlPasses : Shelf → ℕ → List ℕ → Type 0
+ControlPasses s g frame =
+    Passes s g frame 40 (0x09 ∷ 0x00 ∷ []) (List·Memᴰ (byte frame 10) (0x00 ∷ 0x01 ∷ 0x03 ∷ 0x05 ∷ []))
+
+-- 93h: there are at most four descriptors, and each has the source 00h or a supported one
+abbrev pub ConfigurePasses : Shelf → ℕ → List ℕ → Type 0
+ConfigurePasses s g frame =
+    Passes s g frame (12 + 8 * byte frame 11) ((2 + 2 * byte frame 11) ∷ []) ((byte frame 11 ≤ 4) × SourcesAllowed frame)
+
+-- ---- accepted exactly when they pass
+
+control-iff : (s : Shelf) (g : ℕ) (frame : List ℕ) → functionOf frame ≡ 0x91
+    → AllPass (checks s g frame)
+    ↔ ControlPasses s g frame
+unfolding known
+control-iff s g frame e =
+    let right = right-length-91 frame e in
+    let count = count-right s (word frame 4) in
+    let operation = known-operation (byte frame 10) in
+    rw e (
+      λ (_, (len, (cnt, (there, (_, (reached, (op, _))))))).
+          record {
+            true-length = right .0 len .0;
+            byte-3 = right .0 len .1;
+            count = count .0 cnt;
+            phy = there;
+            zone = reached;
+            contents = operation .0 op;
+          },
+      λ w.
+          (tt, (right .1 (w .true-length, w .byte-3), (count .1 (w .count), (w .phy, (tt, (w .zone, (operation .1 (w .contents), (tt, (tt, (tt, tt)))))))))),
+    )
+
+configure-iff : (s : Shelf) (g : ℕ) (frame : List ℕ) → functionOf frame ≡ 0x93
+    → AllPass (checks s g frame)
+    ↔ ConfigurePasses s g frame
+unfolding known
+configure-iff s g frame e =
+    let right = right-length-93 frame e in
+    let count = count-right s (word frame 4) in
+    let few = leb-iff (byte frame 11) 4 in
+    let sources = sources-iff frame in
+    rw e (
+      λ (_, (len, (cnt, (there, (_, (reached, (_, (_, (d, (src, _)))))))))).
+          record {
+            true-length = right .0 len .0;
+            byte-3 = right .0 len .1;
+            count = count .0 cnt;
+            phy = there;
+            zone = reached;
+            contents = (few .0 d, sources .0 src);
+          },
+      λ w.
+          (tt, (right .1 (w .true-length, w .byte-3), (count .1 (w .count), (w .phy, (tt, (w .zone, (tt, (tt, (few .1 (w .contents .0), (sources .1 (w .contents .1), tt)))))))))),
+    )
+
+module _ (s : Shelf) (g : ℕ) (frame out : List ℕ) (answered : NotRefused s g frame out) where
+  accepted-iff : (byte (lentAfter s g frame out) 2 ≡ 0x00) ↔ AllPass (checks s g frame)
+  accepted-iff = rw (result-byte s g frame out answered) (verdict-accepted s g frame)
+
+  pub control-accepted : functionOf frame ≡ 0x91
+      → (byte (lentAfter s g frame out) 2 ≡ 0x00)
+      ↔ ControlPasses s g frame
+  control-accepted e = Iff·trans accepted-iff (control-iff s g frame e)
+
+  pub configure-accepted : functionOf frame ≡ 0x93
+      → (byte (lentAfter s g frame out) 2 ≡ 0x00)
+      ↔ ConfigurePasses s g frame
+  configure-accepted e = Iff·trans accepted-iff (configure-iff s g frame e)
+
+-- ---- the full effect, or none at all
+
+-- t is the shelf afterwards
+pub record FullOrNone (Passes : Type 0) (Full : Shelf → Type 0) (s t : Shelf) : Type 0 where
+  pub full : Passes → Full t
+  pub none : (Passes → ⊥) → t ≡ s
+
+-- of a request that is accepted exactly when it passes, and whose effect is full
+full-or-none : (s : Shelf) (g : ℕ) (frame out : List ℕ) {Passes : Type 0} {Full : Shelf → Type 0}
+    → NotRefused s g frame out → (byte (lentAfter s g frame out) 2 ≡ 0x00) ↔ Passes
+    → (Passes → Full (effect s frame (asked frame)))
+    → FullOrNone Passes Full s (served s g frame out .shelf)
+full-or-none s g frame out {Full = Full} answered passes full =
+    record {
+      full = λ yes-all.
+          subst⁻¹ Full (granted-result s g frame out answered (passes .1 yes-all) .moves) (full yes-all);
+      none = λ not-all.
+          let some : 1 ≤ byte (lentAfter s g frame out) 2 =
+          positive (byte (lentAfter s g frame out) 2) (λ e. not-all (passes .0 e)) in
+          failed-result s g frame out (byte (lentAfter s g frame out) 2) answered refl some .stays;
+    }
+  where
+    positive : (n : ℕ) → (n ≡ 0 → ⊥) → 1 ≤ n
+    positive n h = omega arith
+
+-- byte 9 names one of the shelf's 24 places
+phy-placed : (s : Shelf) (p : ℕ) → Fits s → T (exists s p) → p < length (s .phys)
+phy-placed s p fits there = omega (arith, exists-iff s p .0 there)
+
+pub control-write : (s : Shelf) (g : ℕ) (frame out : List ℕ) → Fits s → NotRefused s g frame out → functionOf frame ≡ 0x91
+    → FullOrNone (ControlPasses s g frame) (Controlled s (byte frame 9) (byte frame 10)) s (served s g frame out .shelf)
+control-write s g frame out fits answered e =
+    full-or-none s g frame out answered (control-accepted s g frame out answered e)
+    (λ w.
+    rw (asked-91 frame e)
+    (controlled-effect s frame (word frame 4) (byte frame 9) (byte frame 10) (phy-placed s (byte frame 9) fits (w .phy))))
+
+pub configure-write : (s : Shelf) (g : ℕ) (frame out : List ℕ) → Fits s → NotRefused s g frame out → functionOf frame ≡ 0x93
+    → FullOrNone (ConfigurePasses s g frame) (Configured s (byte frame 9) frame) s (served s g frame out .shelf)
+configure-write s g frame out fits answered e =
+    full-or-none s g frame out answered (configure-accepted s g frame out answered e)
+    (λ w.
+    rw (asked-93 frame e)
+    (configured-effect s frame (word frame 4) (byte frame 9) (phy-placed s (byte frame 9) fits (w .phy))))
+
+-- ---- reads: every request but 91h and 93h
+
+pub read-stays : (s : Shelf) (g : ℕ) (frame out : List ℕ) → (Of (0x91 ∷ 0x93 ∷ []) frame → ⊥)
+    → served s g frame out .shelf ≡ s
+unfolding served effect
+read-stays s g frame out read =
+    handled-all (λ h. h .shelf ≡ s) s g frame (length out) (λ house. refl) refl
+    (λ e.
+    by-each (functionOf frame) (0x00 ∷ 0x01 ∷ 0x06 ∷ 0x11 ∷ 0x14 ∷ 0x91 ∷ 0x93 ∷ [])
+    (known-iff (functionOf frame) .0 (rw (accepted-decided s g frame e .0) tt)) (
+      λ f. rw (asked-00 frame f),
+      (
+        λ f. rw (asked-01 frame f),
+        (
+          λ f. rw (asked-06 frame f),
+          (
+            λ f. rw (asked-11 frame f),
+            (
+              λ f. rw (asked-14 frame f),
+              (
+                λ f. absurd (read (List·Memᴰ·head f)),
+                (
+                  λ f. absurd (read (List·Memᴰ·tail (List·Memᴰ·head f))),
+                  tt,
+                ),
+              ),
+            ),
+          ),
+        ),
+      ),
+    ))
