@@ -13,3 +13,5 @@ pub mod Steps
 pub mod Unseen
 pub mod Isolation
 pub mod OnShelfW
+-- beside it: what a stranger does and learns
+pub mod Strangers

@@ -84,7 +84,7 @@ checks s g frame =
     ∷ (0x17, onlyFor (0x93 ∷ []) frame (eqb (firstUnsupported frame (byte frame 11) 0) (byte frame 11)))
     ∷ []
 
-verdict-checks : (s : Shelf) (g : ℕ) (frame : List ℕ)
+pub verdict-checks : (s : Shelf) (g : ℕ) (frame : List ℕ)
     → resultCode (verdict s g frame) ≡ firstFailure (checks s g frame)
 unfolding verdict decide known
 verdict-checks s g frame = go (known (functionOf frame)) refl

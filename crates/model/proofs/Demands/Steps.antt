@@ -7,8 +7,6 @@ use mathlib.Core.List.{List, [], _∷_, _++_}
 use borrow.Author.Tests.{eqb-true}
 use lib.Dec.{eqb}
 use lib.ListN.{length}
-use Rattle.model.specs.declared.FunctionResult.the-variants.{Accepted}
-use Rattle.model.specs.declared.FunctionResult.the-variants.{PhyDoesNotExist, PhyVacant}
 use Rattle.model.specs.declared.House.the-variants.{NoSuchPhy}
 use Rattle.model.specs.declared.Request.{Request}
 use Rattle.model.specs.declared.Request.the-variants.{ReportGeneral, ReportManufacturer, ReportBroadcast}
@@ -23,15 +21,16 @@ use Rattle.model.specs.Reply.{deviceListed, phyListed, broadcasts, broad
 use Rattle.model.specs.Reply.{reportBroadcast, reportPhyErrorLog, reportPhyEvent, respond}
 use Rattle.model.specs.Reports.{eventTaken, event, linkChange, reducedFunctionality, sesNotice}
 use Rattle.model.specs.Request.{asked}
-use Rattle.model.specs.Results.{accepted, countRight, checkRead, decide}
+use Rattle.model.specs.Results.{accepted, countRight, decide}
 use Rattle.model.specs.Runs.{Operation, Ask, Event, LinkChange, ReducedFunctionality, Ses, QueryReach, next, told}
 use Rattle.model.specs.Runs.{Answered, Shown}
 use Rattle.model.specs.Server.{Handled, Sends, handle, lent, answer, served, lentAfter}
 use Rattle.model.specs.Shelf.{phyNumber, exists, phyAt, shelfWith, outcome}
-use Rattle.model.specs.Tests.{check, given, joinBelow}
+use Rattle.model.specs.Tests.{given, joinBelow}
 use Rattle.model.specs.Writes.{controlled, controlChanges, configured, effect}
 use Rattle.model.proofs.Demands.Looks.{looks, looks-reaches, looks-reached, looks-twice}
 use Rattle.model.proofs.Demands.Looks.{looks-change}
+use Rattle.model.proofs.Laws.Checks.{read-reached}
 use Rattle.model.proofs.Laws.Inner.{enablesBy, event-inner, change-inner, configured-inner, controlled-inner}
 use Rattle.model.proofs.Laws.Handled.{verdict, both-handled, both-concluded, accepted-decided}
 
@@ -73,17 +72,6 @@ module _ (g : ℕ) (s : Shelf) where
 
   -- ---- responses to g itself
 
-  -- an accepted read is about a phy that its source reaches
-  read-reached : (p : ℕ) → accepted (checkRead s g p) ≡ true → reaches s g p ≡ true
-  read-reached p = go (exists s p) (reaches s g p)
-    where
-      go : (there reached : Bool)
-          → accepted (check there PhyDoesNotExist (check reached PhyVacant Accepted)) ≡ true → reached ≡ true
-      go true true e = refl
-      go true false e = e
-      go false true e = refl
-      go false false e = e
-
   looks-broadcasts : (kind : ℕ) → broadcasts (looks g s) g kind ≡ broadcasts s g kind
   unfolding broadcasts deviceListed
   looks-broadcasts kind = ap (λ of. deviceListed kind s ++ joinBelow (phyNumber s) of) (fun-ext each)
@@ -103,8 +91,8 @@ module _ (g : ℕ) (s : Shelf) where
   looks-respond frame ReportGeneral e = refl
   looks-respond frame ReportManufacturer e = refl
   looks-respond frame (ReportBroadcast kind) e = ap (broadcastFrame s kind) (looks-broadcasts kind)
-  looks-respond frame (ReportPhyErrorLog p) e = ap (reportPhyErrorLog s p) (looks-reached g s p (read-reached p e))
-  looks-respond frame (ReportPhyEvent p) e = ap (reportPhyEvent s p) (looks-reached g s p (read-reached p e))
+  looks-respond frame (ReportPhyErrorLog p) e = ap (reportPhyErrorLog s p) (looks-reached g s p (read-reached s g p e))
+  looks-respond frame (ReportPhyEvent p) e = ap (reportPhyEvent s p) (looks-reached g s p (read-reached s g p e))
   looks-respond frame (PhyControl expected p operation) e = refl
   looks-respond frame (ConfigurePhyEvent expected clear p d) e = refl
 

@@ -24,7 +24,7 @@ use Rattle.model.specs.Writes.{controlled, controlChanges, configured, e
 use Rattle.model.proofs.Laws.Handled.{handled-all}
 use Rattle.model.proofs.Laws.Inner.{event-inner, change-inner, configured-inner, controlled-inner}
 use Rattle.model.proofs.Laws.Places.{change-at}
-use Rattle.model.proofs.Plain.Shelf.{SameFrame, put-frame, device-frame}
+use Rattle.model.proofs.Plain.Shelf.{SameFrame, same-frame, put-frame, device-frame}
 
 -- a count that is originated, or not
 abbrev pub moved : Bool → ℕ → ℕ
@@ -81,9 +81,6 @@ module _ (Keeps : (Phy → Phy) → Type 0) (s : Shelf) where
   next-step (QueryReach g) keeps = Stays refl
 
 -- What no step changes: the phy number, the table and the identifier.
-pub same-frame : (s : Shelf) → SameFrame s s
-same-frame s = record { number = refl; table = refl; identifier = refl }
-
 pub step-frame : (Keeps : (Phy → Phy) → Type 0) (s t : Shelf) → Step Keeps s t → SameFrame s t
 step-frame Keeps s t (Stays e) = rw e (same-frame s)
 step-frame Keeps s t (Moves p f b keeps e) = rw e (put-frame s p (f (phyAt s p)) (moved b (s .changes)))

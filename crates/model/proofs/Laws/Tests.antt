@@ -184,3 +184,8 @@ cond-by P false x y px py = py refl
 -- what holds of both holds of the one that is chosen
 pub cond-both : {A : Type 0} (P : A → Type 0) (b : Bool) (x y : A) → P x → P y → P (cond b x y)
 cond-both P b x y px py = cond-by P b x y (λ e. px) (λ e. py)
+
+pub check-both : {A : Type 0} (P : A → Type 0) (b : Bool) (failure rest : A) → P failure → P rest
+    → P (check b failure rest)
+check-both P true failure rest pf pr = pr
+check-both P false failure rest pf pr = pf

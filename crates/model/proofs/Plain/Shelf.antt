@@ -21,6 +21,12 @@ pub record OnlyPhy (s : Shelf) (p : ℕ) (t : Shelf) : Type 0 where
   pub expander3 : t .expander3 ≡ s .expander3
   pub ses0 : t .ses0 ≡ s .ses0
 
+pub same-frame : (s : Shelf) → SameFrame s s
+same-frame s = record { number = refl; table = refl; identifier = refl }
+
+pub same-only : (s : Shelf) (p : ℕ) → OnlyPhy s p s
+same-only s p = record { frame = same-frame s; others = λ q apart. refl; expander3 = refl; ses0 = refl }
+
 module _ (s : Shelf) (p : ℕ) (x : Phy) (count : ℕ) where
   pub put-frame : SameFrame s (put s p x count)
   put-frame = record { number = refl; table = refl; identifier = refl }

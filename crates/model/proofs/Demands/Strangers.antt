@@ -1,0 +1,178 @@
+-- What a stranger does and learns: demand 3 says nothing of that by itself. A request about a phy that its source does not reach leaves
+-- the shelf, and its answer tells nothing of what was sent; no request changes a phy out of its source's reach; a report changes its own
+-- phy alone. Assumes nothing.
+use Prim.Native.Nat.{ℕ, _≤_}
+use native.Mathlib.Omega.{arith}
+use mathlib.Core.Path.{_≡_, refl, sym, _∙_}
+use mathlib.Core.Bool.{Bool, true, false, cond, not, _||_}
+use mathlib.Core.List.{List, [], _∷_}
+use borrow.Author.Tests.{eqb-true}
+use lib.Dec.{T}
+use lib.ListN.{length}
+use Rattle.model.specs.declared.House.the-variants.{NoSuchPhy}
+use Rattle.model.specs.declared.Request.{Request}
+use Rattle.model.specs.declared.Request.the-variants.{ReportGeneral, ReportManufacturer, ReportBroadcast}
+use Rattle.model.specs.declared.Request.the-variants.{ReportPhyErrorLog, ReportPhyEvent, PhyControl}
+use Rattle.model.specs.declared.Request.the-variants.{ConfigurePhyEvent}
+use Rattle.model.specs.declared.Shelf.{Shelf}
+use Rattle.model.specs.declared.Taken.{Taken}
+use Rattle.model.specs.declared.Taken.the-variants.{Done, NotDone}
+use Rattle.model.specs.Bytes.{byte, word}
+use Rattle.model.specs.Counting.{originate, eventOn, changeOn}
+use Rattle.model.specs.Reach.{reaches}
+use Rattle.model.specs.Reports.{eventTaken, event, linkChange, reducedFunctionality, sesNotice}
+use Rattle.model.specs.Request.{functionOf, known, lengthRight, asked}
+use Rattle.model.specs.Results.{resultCode, accepted, countRight, decide}
+use Rattle.model.specs.Server.{served, lentAfter}
+use Rattle.model.specs.Shelf.{exists, phyAt, put, outcome}
+use Rattle.model.specs.Tests.{check, given, oneOf}
+use Rattle.model.specs.Writes.{effect}
+use Rattle.model.proofs.Demands.Results.{Of, NotRefused, verdict-checks, result-byte, Failed, failed-result}
+use Rattle.model.proofs.Laws.Checks.{write-reached}
+use Rattle.model.proofs.Laws.Handled.{verdict, handled-all, accepted-decided}
+use Rattle.model.proofs.Laws.Tests.{is-false, by-each, check-both, cond-both}
+use Rattle.model.proofs.Plain.Shelf.{OnlyPhy, same-only, put-only, put-other}
+
+-- ---- A stranger's request
+
+-- A request of one of the four functions with a phy, which its source does not reach.
+pub record Strange (s : Shelf) (g : ℕ) (frame : List ℕ) : Type 0 where
+  pub function : Of (0x11 ∷ 0x14 ∷ 0x91 ∷ 0x93 ∷ []) frame
+  pub unreached : T (reaches s g (byte frame 9)) → ⊥
+
+-- All that its answer depends on: the function, and whether the length, the count (of a write) and the phy's existence pass.
+abbrev pub strangerCode : ℕ → Bool → Bool → Bool → ℕ
+strangerCode function lengthPasses countPasses there =
+    let read : Bool = oneOf (0x11 ∷ 0x14 ∷ []) function in
+    check lengthPasses 0x03
+    (check (read || countPasses) 0x04
+    (check there 0x10
+    (cond read 0x16 0x20)))
+
+-- the four that a frame gives on a shelf
+abbrev pub codeFor : Shelf → List ℕ → ℕ
+codeFor s frame =
+    strangerCode (functionOf frame) (lengthRight frame) (countRight s (word frame 4)) (exists s (byte frame 9))
+
+stranger-verdict : (s : Shelf) (g : ℕ) (frame : List ℕ) → Strange s g frame
+    → resultCode (verdict s g frame) ≡ codeFor s frame
+unfolding known
+stranger-verdict s g frame strange =
+    let out : reaches s g (byte frame 9) ≡ false = is-false (reaches s g (byte frame 9)) (strange .unreached) in
+    by-each (functionOf frame) (0x11 ∷ 0x14 ∷ 0x91 ∷ 0x93 ∷ []) (strange .function) (
+      λ e. rw (verdict-checks s g frame, e, out),
+      (
+        λ e. rw (verdict-checks s g frame, e, out),
+        (
+          λ e. rw (verdict-checks s g frame, e, out),
+          (
+            λ e. rw (verdict-checks s g frame, e, out),
+            tt,
+          ),
+        ),
+      ),
+    )
+
+code-some : (function : ℕ) (a b c : Bool) → 1 ≤ strangerCode function a b c
+code-some function a b c =
+    check-both (λ n. 1 ≤ n) a _ _ (omega arith)
+    (check-both (λ n. 1 ≤ n) (oneOf (0x11 ∷ 0x14 ∷ []) function || b) _ _ (omega arith)
+    (check-both (λ n. 1 ≤ n) c _ _ (omega arith)
+    (cond-both (λ n. 1 ≤ n) (oneOf (0x11 ∷ 0x14 ∷ []) function) _ _ (omega arith) (omega arith))))
+
+-- it is a failed result, so the shelf and the rest of the buffer are as before, and its code is that one
+pub stranger-answered : (s : Shelf) (g : ℕ) (frame out : List ℕ) → NotRefused s g frame out → Strange s g frame
+    → Failed s g frame out (codeFor s frame)
+stranger-answered s g frame out answered strange =
+    failed-result s g frame out (codeFor s frame) answered
+    (result-byte s g frame out answered ∙ stranger-verdict s g frame strange)
+    (code-some (functionOf frame) (lengthRight frame) (countRight s (word frame 4)) (exists s (byte frame 9)))
+
+-- refused or answered, it leaves the shelf as it was
+pub stranger-stays : (s : Shelf) (g : ℕ) (frame out : List ℕ) → Strange s g frame → served s g frame out .shelf ≡ s
+unfolding served
+stranger-stays s g frame out strange =
+    handled-all (λ h. h .shelf ≡ s) s g frame (length out) (λ house. refl) refl
+    (λ e.
+    let none : codeFor s frame ≡ 0x00 =
+    sym (stranger-verdict s g frame strange) ∙ eqb-true (resultCode (verdict s g frame)) 0x00 e in
+    absurd
+    (omega
+    (arith, code-some (functionOf frame) (lengthRight frame) (countRight s (word frame 4)) (exists s (byte frame 9)))))
+
+-- So two strangers' requests, whatever else differs in frames, shelves and sources, are answered alike.
+pub strangers-learn-nothing : (s t : Shelf) (g h : ℕ) (frame frame′ out : List ℕ)
+    → NotRefused s g frame out → NotRefused t h frame′ out → Strange s g frame → Strange t h frame′
+    → functionOf frame ≡ functionOf frame′ → lengthRight frame ≡ lengthRight frame′
+    → countRight s (word frame 4) ≡ countRight t (word frame′ 4)
+    → exists s (byte frame 9) ≡ exists t (byte frame′ 9)
+    → (served s g frame out .answer ≡ served t h frame′ out .answer) × (lentAfter s g frame out ≡ lentAfter t h frame′ out)
+strangers-learn-nothing s t g h frame frame′ out answered answered′ strange strange′ function lengths counts there =
+    let one : Failed s g frame out (codeFor s frame) = stranger-answered s g frame out answered strange in
+    let other : Failed t h frame′ out (codeFor t frame′) = stranger-answered t h frame′ out answered′ strange′ in
+    let code : codeFor s frame ≡ codeFor t frame′ = rw (function, lengths, counts, there) in
+    (cc, cc (one .left, other .left, code, function))
+
+-- ---- No request of a group changes any number of a phy that the group does not reach.
+
+effect-elsewhere : (s : Shelf) (g : ℕ) (frame : List ℕ) (request : Request) (q : ℕ) → (T (reaches s g q) → ⊥)
+    → accepted (decide s g frame request) ≡ true → phyAt (effect s frame request) q ≡ phyAt s q
+unfolding effect decide
+effect-elsewhere s g frame ReportGeneral q out e = refl
+effect-elsewhere s g frame ReportManufacturer q out e = refl
+effect-elsewhere s g frame (ReportBroadcast kind) q out e = refl
+effect-elsewhere s g frame (ReportPhyErrorLog p) q out e = refl
+effect-elsewhere s g frame (ReportPhyEvent p) q out e = refl
+effect-elsewhere s g frame (PhyControl expected p operation) q out e =
+    put-other s p _ (s .changes) q (λ same. out (rw (same, write-reached s g expected p _ e) tt))
+effect-elsewhere s g frame (ConfigurePhyEvent expected clear p d) q out e =
+    put-other s p _ (s .changes) q (λ same. out (rw (same, write-reached s g expected p _ e) tt))
+
+pub request-elsewhere : (s : Shelf) (g : ℕ) (frame out : List ℕ) (q : ℕ) → (T (reaches s g q) → ⊥)
+    → phyAt (served s g frame out .shelf) q ≡ phyAt s q
+unfolding served
+request-elsewhere s g frame out q unreached =
+    handled-all (λ h. phyAt (h .shelf) q ≡ phyAt s q) s g frame (length out) (λ house. refl) refl
+    (λ e. effect-elsewhere s g frame (asked frame) q unreached (accepted-decided s g frame e .2))
+
+-- ---- Reports of a phy change that phy alone, and the change count only by Change.
+
+outcome-only : (taken : Taken) (s : Shelf) (p : ℕ) (t : Shelf) → OnlyPhy s p t → OnlyPhy s p (outcome taken s t .shelf)
+outcome-only Done s p t only = only
+outcome-only (NotDone house) s p t only = same-only s p
+
+pub event-only : (s : Shelf) (p source amount : ℕ) → OnlyPhy s p (event s p source amount .shelf)
+unfolding event
+event-only s p source amount = outcome-only (eventTaken s p source amount) s p _ (put-only s p _ _)
+
+pub event-count : (s : Shelf) (p source amount : ℕ) → event s p source amount .shelf .changes ≡ s .changes
+unfolding event
+event-count s p source amount = go (eventTaken s p source amount)
+  where
+    go : (taken : Taken) → outcome taken s (put s p (eventOn source amount (phyAt s p)) (s .changes)) .shelf .changes ≡ s .changes
+    go Done = refl
+    go (NotDone house) = refl
+
+pub link-change-only : (s : Shelf) (p : ℕ) → OnlyPhy s p (linkChange s p .shelf)
+unfolding linkChange
+link-change-only s p = outcome-only (given (not (exists s p)) (NotDone NoSuchPhy) Done) s p _ (put-only s p _ _)
+
+pub link-change-count : (s : Shelf) (p : ℕ)
+    → linkChange s p .shelf .changes ≡ cond (exists s p) (originate (s .changes)) (s .changes)
+unfolding linkChange
+link-change-count s p = go (exists s p)
+  where
+    go : (there : Bool)
+        → outcome (given (not there) (NotDone NoSuchPhy) Done) s (put s p (changeOn (phyAt s p .enabled) (phyAt s p)) (originate (s .changes))) .shelf .changes
+        ≡ cond there (originate (s .changes)) (s .changes)
+    go true = refl
+    go false = refl
+
+-- the device notices change neither a phy nor the change count
+pub notices-elsewhere : (s : Shelf)
+    → (reducedFunctionality s .phys ≡ s .phys)
+    × (reducedFunctionality s .changes ≡ s .changes)
+    × (sesNotice s .phys ≡ s .phys)
+    × (sesNotice s .changes ≡ s .changes)
+unfolding reducedFunctionality sesNotice
+notices-elsewhere s = (refl, refl, refl, refl)
