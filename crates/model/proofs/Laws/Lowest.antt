@@ -18,9 +18,11 @@ Applies (A ∷ rest) n k = ((k ≡ n) × A) ⊎ Applies rest (suc n) k
 abbrev pub Lowest : List (Type 0) → ℕ → ℕ → Type 0
 Lowest conditions n k = Applies conditions n k × ((j : ℕ) → j < k → Applies conditions n j → ⊥)
 
--- What was told is the lowest number that applies, and 0 stands for none: each number from 1 on is told exactly when it is the lowest.
-abbrev pub Gives : List (Type 0) → ℕ → ℕ → Type 0
-Gives conditions n told = (k : ℕ) → ((1 ≤ k) × (told ≡ k)) ↔ Lowest conditions n k
+-- What was told is the lowest number that applies: each number from 1 on is told exactly when it is the lowest, and 0, which stands for
+-- no refusal, exactly when none applies.
+pub record Gives (conditions : List (Type 0)) (n told : ℕ) : Type 0 where
+  pub each : (k : ℕ) → ((1 ≤ k) × (told ≡ k)) ↔ Lowest conditions n k
+  pub none : (told ≡ 0) ↔ ((k : ℕ) → Applies conditions n k → ⊥)
 
 -- ---- A row of tests that say these conditions gives it.
 
@@ -61,9 +63,23 @@ lowest-later A rest n k fails = (
 
 pub row-gives : (tests : List Bool) (conditions : List (Type 0)) (n : ℕ) → 1 ≤ n → Say tests conditions
     → Gives conditions n (firstGiven tests n)
-row-gives [] [] n from say k = (λ h. absurd (omega arith), λ h. absurd (h .0))
-row-gives [] (A ∷ rest) n from say k = absurd say
-row-gives (a ∷ tests) [] n from say k = absurd say
-row-gives (true ∷ tests) (A ∷ rest) n from say k = lowest-here A rest n k (say .0 .0 tt) from
-row-gives (false ∷ tests) (A ∷ rest) n from say k =
-    Iff·trans (row-gives tests rest (suc n) (omega arith) (say .1) k) (lowest-later A rest n k (λ a. say .0 .1 a))
+row-gives [] [] n from say =
+    record { each = λ k. (λ h. absurd (omega arith), λ h. absurd (h .0)); none = (λ e k there. there, λ none. refl) }
+row-gives [] (A ∷ rest) n from say = absurd say
+row-gives (a ∷ tests) [] n from say = absurd say
+row-gives (true ∷ tests) (A ∷ rest) n from say =
+    let holds : A = say .0 .0 tt in
+    record {
+      each = λ k. lowest-here A rest n k holds from;
+      none = (λ e. absurd (omega arith), λ none. absurd (none n (inl (refl, holds))));
+    }
+row-gives (false ∷ tests) (A ∷ rest) n from say =
+    let fails : A → ⊥ = λ a. say .0 .1 a in
+    let later : Gives rest (suc n) (firstGiven tests (suc n)) = row-gives tests rest (suc n) (omega arith) (say .1) in
+    record {
+      each = λ k. Iff·trans (later .each k) (lowest-later A rest n k fails);
+      none = (
+        λ e k. ⊎-elim (λ h. fails (h .1)) (λ there. later .none .0 e k there),
+        λ none. later .none .1 (λ k there. none k (inr there)),
+      );
+    }

@@ -1,0 +1,130 @@
+-- "Every request frame, any source group and any hardware report gets its fixed answer": each has exactly one outcome, and none is missing.
+-- That there is at most one needs no proof: `start`, `served`, `lentAfter`, `event`, `linkChange`, the two notices and `reachQuery` are
+-- functions, with a value for all shelves, numbers and lists. That each of these values is one of those that document 01 names is shown
+-- here, with when it comes. Assumes nothing.
+use Prim.Native.Nat.{ℕ, _≤_}
+use native.Mathlib.Nat.{eq-zero-or-pos}
+use native.Mathlib.Omega.{arith}
+use mathlib.Core.Path.{_≡_, refl}
+use mathlib.Core.Logic.{_⊎_, inl, inr}
+use mathlib.Core.Bool.{not}
+use mathlib.Core.List.{List, [], _∷_}
+use Rattle.model.specs.declared.House.{House}
+use Rattle.model.specs.declared.House.the-variants.{PhyNumber, PhyGroup, IllegalTable, SourceGroup, ShortBuffer}
+use Rattle.model.specs.declared.House.the-variants.{BadFrame, NoSuchPhy, EventSource, Amount}
+use Rattle.model.specs.declared.Outcome.{Outcome}
+use Rattle.model.specs.declared.Shelf.{Shelf}
+use Rattle.model.specs.declared.Taken.{Taken}
+use Rattle.model.specs.declared.Taken.the-variants.{Done, NotDone}
+use Rattle.model.specs.Bytes.{byte}
+use Rattle.model.specs.Counting.{originate, eventOn, changeOn}
+use Rattle.model.specs.House.{houseNumber, takenNumber, answerNumber}
+use Rattle.model.specs.Reports.{eventTaken, event, linkChange}
+use Rattle.model.specs.Server.{served, lentAfter}
+use Rattle.model.specs.Shelf.{exists, phyAt, put, freshShelf, noShelf, outcome, startTaken, start}
+use Rattle.model.specs.Tests.{given}
+use Rattle.model.proofs.Demands.Refusals.{startRefusals, requestRefusals, phyRefusal, eventRefusals, start-gives}
+use Rattle.model.proofs.Demands.Refusals.{request-gives, event-gives, link-change-gives, request-refusal}
+use Rattle.model.proofs.Demands.Results.{failures, NotRefused, result-drawn, Failed, failed-result, Granted}
+use Rattle.model.proofs.Demands.Results.{granted-result}
+use Rattle.model.proofs.Laws.Drawn.{Draws}
+use Rattle.model.proofs.Laws.Lowest.{Applies, Lowest, Gives}
+
+-- ---- A request is refused, or it fails, or it is accepted.
+
+pub data RequestEnds (s : Shelf) (g : ℕ) (frame out : List ℕ) : Type 0 where
+  -- by house refusal k, the lowest that applies; shelf and buffer stay
+  Refused : (k : ℕ) → 1 ≤ k → answerNumber (served s g frame out .answer) ≡ k → Lowest (requestRefusals g frame out) 4 k
+      → served s g frame out .shelf ≡ s → lentAfter s g frame out ≡ out → RequestEnds s g frame out
+  -- with the code of its first failure; the shelf stays
+  Fails : (code : ℕ) → 1 ≤ code → NotRefused s g frame out → Draws (failures s g frame) code
+      → Failed s g frame out code → RequestEnds s g frame out
+  -- where nothing fails, with its response and its effect
+  Accepts : NotRefused s g frame out → Draws (failures s g frame) 0x00 → Granted s g frame out → RequestEnds s g frame out
+
+pub every-request : (s : Shelf) (g : ℕ) (frame out : List ℕ) → RequestEnds s g frame out
+every-request s g frame out = refusal (eq-zero-or-pos (answerNumber (served s g frame out .answer)))
+  where
+    code : ℕ
+    code = byte (lentAfter s g frame out) 2
+
+    result : NotRefused s g frame out → (code ≡ 0) ⊎ (1 ≤ code) → RequestEnds s g frame out
+    result answered (inl e) =
+        Accepts answered (result-drawn s g frame out answered 0x00 .0 e) (granted-result s g frame out answered e)
+    result answered (inr some) =
+        Fails code some answered (result-drawn s g frame out answered code .0 refl)
+        (failed-result s g frame out code answered refl some)
+
+    refusal : (answerNumber (served s g frame out .answer) ≡ 0) ⊎ (1 ≤ answerNumber (served s g frame out .answer))
+        → RequestEnds s g frame out
+    refusal (inl answered) = result answered (eq-zero-or-pos code)
+    refusal (inr some) =
+        let (shelf, buffer) = request-refusal s g frame out some in
+        Refused (answerNumber (served s g frame out .answer)) some refl
+        (request-gives s g frame out .each (answerNumber (served s g frame out .answer)) .0 (some, refl))
+        shelf
+        buffer
+
+-- No two of them come together: which it is, is settled by what was told and by byte 2 of the buffer.
+abbrev pub endKind : {s : Shelf} {g : ℕ} {frame out : List ℕ} → RequestEnds s g frame out → ℕ
+endKind (Refused k from told lowest shelf buffer) = 0
+endKind (Fails code some answered drawn failed) = 1
+endKind (Accepts answered drawn granted) = 2
+
+pub one-end : (s : Shelf) (g : ℕ) (frame out : List ℕ) (a b : RequestEnds s g frame out) → endKind a ≡ endKind b
+one-end s g frame out (Refused k from told lowest shelf buffer) (Refused k′ from′ told′ lowest′ shelf′ buffer′) = refl
+one-end s g frame out (Refused k from told lowest shelf buffer) (Fails code some answered drawn failed) = omega arith
+one-end s g frame out (Refused k from told lowest shelf buffer) (Accepts answered drawn granted) = omega arith
+one-end s g frame out (Fails code some answered drawn failed) (Refused k from told lowest shelf buffer) = omega arith
+one-end s g frame out (Fails code some answered drawn failed) (Fails code′ some′ answered′ drawn′ failed′) = refl
+one-end s g frame out (Fails code some answered drawn failed) (Accepts answered′ drawn′ granted) =
+    omega (arith, result-drawn s g frame out answered code .1 drawn, result-drawn s g frame out answered 0x00 .1 drawn′)
+one-end s g frame out (Accepts answered drawn granted) (Refused k from told lowest shelf buffer) = omega arith
+one-end s g frame out (Accepts answered drawn granted) (Fails code some answered′ drawn′ failed) =
+    omega (arith, result-drawn s g frame out answered 0x00 .1 drawn, result-drawn s g frame out answered code .1 drawn′)
+one-end s g frame out (Accepts answered drawn granted) (Accepts answered′ drawn′ granted′) = refl
+
+-- ---- A start, an event report and a link change is refused, or done.
+
+pub data TakenEnds (conditions : List (Type 0)) (n : ℕ) (old new : Shelf) (o : Outcome) : Type 0 where
+  NotTaken : (k : ℕ) → 1 ≤ k → takenNumber (o .taken) ≡ k → Lowest conditions n k → o .shelf ≡ old
+      → TakenEnds conditions n old new o
+  TakenDone : o .taken ≡ Done → ((k : ℕ) → Applies conditions n k → ⊥) → o .shelf ≡ new
+      → TakenEnds conditions n old new o
+
+house-some : (house : House) → 1 ≤ houseNumber house
+house-some PhyNumber = omega arith
+house-some PhyGroup = omega arith
+house-some IllegalTable = omega arith
+house-some SourceGroup = omega arith
+house-some ShortBuffer = omega arith
+house-some BadFrame = omega arith
+house-some NoSuchPhy = omega arith
+house-some EventSource = omega arith
+house-some Amount = omega arith
+
+every-taken : (conditions : List (Type 0)) (n : ℕ) (taken : Taken) (old new : Shelf)
+    → Gives conditions n (takenNumber (outcome taken old new .taken)) → TakenEnds conditions n old new (outcome taken old new)
+every-taken conditions n Done old new gives = TakenDone refl (gives .none .0 refl) refl
+every-taken conditions n (NotDone house) old new gives =
+    let some : 1 ≤ houseNumber house = house-some house in
+    NotTaken (houseNumber house) some refl (gives .each (houseNumber house) .0 (some, refl)) refl
+
+pub every-start : (n : ℕ) (groups table identifier : List ℕ)
+    → TakenEnds (startRefusals n groups table) 1 noShelf (freshShelf n groups table identifier) (start n groups table identifier)
+unfolding start
+every-start n groups table identifier =
+    every-taken (startRefusals n groups table) 1 (startTaken n groups table) noShelf (freshShelf n groups table identifier)
+    (start-gives n groups table identifier)
+
+pub every-event : (s : Shelf) (p source amount : ℕ)
+    → TakenEnds (eventRefusals s p source amount) 7 s (put s p (eventOn source amount (phyAt s p)) (s .changes)) (event s p source amount)
+unfolding event
+every-event s p source amount =
+    every-taken (eventRefusals s p source amount) 7 (eventTaken s p source amount) s _ (event-gives s p source amount)
+
+pub every-link-change : (s : Shelf) (p : ℕ)
+    → TakenEnds (phyRefusal s p ∷ []) 7 s (put s p (changeOn (phyAt s p .enabled) (phyAt s p)) (originate (s .changes))) (linkChange s p)
+unfolding linkChange
+every-link-change s p =
+    every-taken (phyRefusal s p ∷ []) 7 (given (not (exists s p)) (NotDone NoSuchPhy) Done) s _ (link-change-gives s p)
