@@ -5,10 +5,12 @@
 use Prim.Native.Nat.{ℕ, _≤_}
 use native.Mathlib.Nat.{eq-zero-or-pos}
 use native.Mathlib.Omega.{arith}
-use mathlib.Core.Path.{_≡_, refl}
+use mathlib.Core.Path.{_≡_, refl, sym, _∙_}
 use mathlib.Core.Logic.{_⊎_, inl, inr}
-use mathlib.Core.Bool.{not}
+use mathlib.Core.Bool.{not, cond}
 use mathlib.Core.List.{List, [], _∷_}
+use borrow.Author.Tests.{eq-eqb, ne-eqb}
+use lib.Dec.{eqb}
 use Rattle.model.specs.declared.House.{House}
 use Rattle.model.specs.declared.House.the-variants.{PhyNumber, PhyGroup, IllegalTable, SourceGroup, ShortBuffer}
 use Rattle.model.specs.declared.House.the-variants.{BadFrame, NoSuchPhy, EventSource, Amount}
@@ -71,18 +73,22 @@ endKind (Refused k from told lowest shelf buffer) = 0
 endKind (Fails code some answered drawn failed) = 1
 endKind (Accepts answered drawn granted) = 2
 
+kind-told : (s : Shelf) (g : ℕ) (frame out : List ℕ) (a : RequestEnds s g frame out)
+    → endKind a
+    ≡ cond (eqb (answerNumber (served s g frame out .answer)) 0) (cond (eqb (byte (lentAfter s g frame out) 2) 0x00) 2 1) 0
+kind-told s g frame out (Refused k from told lowest shelf buffer) =
+    rw (ne-eqb (answerNumber (served s g frame out .answer)) 0 (λ e. omega arith))
+kind-told s g frame out (Fails code some answered drawn failed) =
+    let is : byte (lentAfter s g frame out) 2 ≡ code = result-drawn s g frame out answered code .1 drawn in
+    rw (eq-eqb (answerNumber (served s g frame out .answer)) 0 answered, ne-eqb (byte (lentAfter s g frame out) 2) 0x00 (λ e. omega arith))
+kind-told s g frame out (Accepts answered drawn granted) =
+    rw (
+      eq-eqb (answerNumber (served s g frame out .answer)) 0 answered,
+      eq-eqb (byte (lentAfter s g frame out) 2) 0x00 (result-drawn s g frame out answered 0x00 .1 drawn),
+    )
+
 pub one-end : (s : Shelf) (g : ℕ) (frame out : List ℕ) (a b : RequestEnds s g frame out) → endKind a ≡ endKind b
-one-end s g frame out (Refused k from told lowest shelf buffer) (Refused k′ from′ told′ lowest′ shelf′ buffer′) = refl
-one-end s g frame out (Refused k from told lowest shelf buffer) (Fails code some answered drawn failed) = omega arith
-one-end s g frame out (Refused k from told lowest shelf buffer) (Accepts answered drawn granted) = omega arith
-one-end s g frame out (Fails code some answered drawn failed) (Refused k from told lowest shelf buffer) = omega arith
-one-end s g frame out (Fails code some answered drawn failed) (Fails code′ some′ answered′ drawn′ failed′) = refl
-one-end s g frame out (Fails code some answered drawn failed) (Accepts answered′ drawn′ granted) =
-    omega (arith, result-drawn s g frame out answered code .1 drawn, result-drawn s g frame out answered 0x00 .1 drawn′)
-one-end s g frame out (Accepts answered drawn granted) (Refused k from told lowest shelf buffer) = omega arith
-one-end s g frame out (Accepts answered drawn granted) (Fails code some answered′ drawn′ failed) =
-    omega (arith, result-drawn s g frame out answered 0x00 .1 drawn, result-drawn s g frame out answered code .1 drawn′)
-one-end s g frame out (Accepts answered drawn granted) (Accepts answered′ drawn′ granted′) = refl
+one-end s g frame out a b = kind-told s g frame out a ∙ sym (kind-told s g frame out b)
 
 -- ---- A start, an event report and a link change is refused, or done.
 

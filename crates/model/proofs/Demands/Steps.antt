@@ -30,7 +30,7 @@ use Rattle.model.specs.Tests.{given, joinBelow}
 use Rattle.model.specs.Writes.{controlled, controlChanges, configured, effect}
 use Rattle.model.proofs.Demands.Looks.{looks, looks-reaches, looks-reached, looks-twice}
 use Rattle.model.proofs.Demands.Looks.{looks-change}
-use Rattle.model.proofs.Laws.Checks.{read-reached}
+use Rattle.model.proofs.Laws.Checks.{both-outcomes, read-reached}
 use Rattle.model.proofs.Laws.Inner.{enablesBy, event-inner, change-inner, configured-inner, controlled-inner}
 use Rattle.model.proofs.Laws.Handled.{verdict, both-handled, both-concluded, accepted-decided}
 
@@ -126,10 +126,11 @@ module _ (g : ℕ) (s : Shelf) where
 
   -- ---- every operation
 
+  -- the same report on both shelves
   looks-outcome : (taken : Taken) (new new′ : Shelf) → looks g new ≡ looks g new′
       → looks g (outcome taken (looks g s) new .shelf) ≡ looks g (outcome taken s new′ .shelf)
-  looks-outcome Done new new′ e = e
-  looks-outcome (NotDone house) new new′ e = looks-twice g s
+  looks-outcome taken new new′ =
+      both-outcomes (λ x y. looks g x ≡ looks g y) taken (looks g s) s new new′ (looks-twice g s)
 
   -- how the shelf looks afterwards
   pub looks-next : (operation : Operation) → looks g (next (looks g s) operation) ≡ looks g (next s operation)

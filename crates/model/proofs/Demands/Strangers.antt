@@ -15,10 +15,9 @@ use Rattle.model.specs.declared.Request.the-variants.{ReportGeneral, Rep
 use Rattle.model.specs.declared.Request.the-variants.{ReportPhyErrorLog, ReportPhyEvent, PhyControl}
 use Rattle.model.specs.declared.Request.the-variants.{ConfigurePhyEvent}
 use Rattle.model.specs.declared.Shelf.{Shelf}
-use Rattle.model.specs.declared.Taken.{Taken}
 use Rattle.model.specs.declared.Taken.the-variants.{Done, NotDone}
 use Rattle.model.specs.Bytes.{byte, word}
-use Rattle.model.specs.Counting.{originate, eventOn, changeOn}
+use Rattle.model.specs.Counting.{originate, changeOn}
 use Rattle.model.specs.Reach.{reaches}
 use Rattle.model.specs.Reports.{eventTaken, event, linkChange, reducedFunctionality, sesNotice}
 use Rattle.model.specs.Request.{functionOf, known, lengthRight, asked}
@@ -28,7 +27,7 @@ use Rattle.model.specs.Shelf.{exists, phyAt, put, outcome}
 use Rattle.model.specs.Tests.{check, given, oneOf}
 use Rattle.model.specs.Writes.{effect}
 use Rattle.model.proofs.Demands.Results.{Of, NotRefused, verdict-checks, result-byte, Failed, failed-result}
-use Rattle.model.proofs.Laws.Checks.{write-reached}
+use Rattle.model.proofs.Laws.Checks.{every-outcome, write-reached}
 use Rattle.model.proofs.Laws.Handled.{verdict, handled-all, accepted-decided}
 use Rattle.model.proofs.Laws.Tests.{is-false, by-each, check-both, cond-both}
 use Rattle.model.proofs.Plain.Shelf.{OnlyPhy, same-only, put-only, put-other}
@@ -137,25 +136,20 @@ request-elsewhere s g frame out q unreached =
 
 -- ---- Reports of a phy change that phy alone, and the change count only by Change.
 
-outcome-only : (taken : Taken) (s : Shelf) (p : ℕ) (t : Shelf) → OnlyPhy s p t → OnlyPhy s p (outcome taken s t .shelf)
-outcome-only Done s p t only = only
-outcome-only (NotDone house) s p t only = same-only s p
-
 pub event-only : (s : Shelf) (p source amount : ℕ) → OnlyPhy s p (event s p source amount .shelf)
 unfolding event
-event-only s p source amount = outcome-only (eventTaken s p source amount) s p _ (put-only s p _ _)
+event-only s p source amount =
+    every-outcome (OnlyPhy s p) (eventTaken s p source amount) s _ (same-only s p) (put-only s p _ _)
 
 pub event-count : (s : Shelf) (p source amount : ℕ) → event s p source amount .shelf .changes ≡ s .changes
 unfolding event
-event-count s p source amount = go (eventTaken s p source amount)
-  where
-    go : (taken : Taken) → outcome taken s (put s p (eventOn source amount (phyAt s p)) (s .changes)) .shelf .changes ≡ s .changes
-    go Done = refl
-    go (NotDone house) = refl
+event-count s p source amount =
+    every-outcome (λ t. t .changes ≡ s .changes) (eventTaken s p source amount) s _ refl refl
 
 pub link-change-only : (s : Shelf) (p : ℕ) → OnlyPhy s p (linkChange s p .shelf)
 unfolding linkChange
-link-change-only s p = outcome-only (given (not (exists s p)) (NotDone NoSuchPhy) Done) s p _ (put-only s p _ _)
+link-change-only s p =
+    every-outcome (OnlyPhy s p) (given (not (exists s p)) (NotDone NoSuchPhy) Done) s _ (same-only s p) (put-only s p _ _)
 
 pub link-change-count : (s : Shelf) (p : ℕ)
     → linkChange s p .shelf .changes ≡ cond (exists s p) (originate (s .changes)) (s .changes)

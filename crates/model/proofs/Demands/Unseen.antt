@@ -9,8 +9,6 @@ use lib.Dec.{T, eqb}
 use lib.ListN.{length}
 use Rattle.model.specs.declared.Phy.{Phy}
 use Rattle.model.specs.declared.Shelf.{Shelf}
-use Rattle.model.specs.declared.Taken.{Taken}
-use Rattle.model.specs.declared.Taken.the-variants.{Done, NotDone}
 use Rattle.model.specs.Bytes.{byte}
 use Rattle.model.specs.Counting.{eventOn}
 use Rattle.model.specs.CrossedOut.{aboutPhy, linkResetOrDisable, crossedOut}
@@ -18,10 +16,11 @@ use Rattle.model.specs.Reach.{reaches}
 use Rattle.model.specs.Reports.{eventTaken, event}
 use Rattle.model.specs.Request.{functionOf, asked}
 use Rattle.model.specs.Runs.{Operation, Ask, Event, LinkChange, ReducedFunctionality, Ses, QueryReach, next, told}
-use Rattle.model.specs.Shelf.{phyAt, outcome}
+use Rattle.model.specs.Shelf.{phyAt}
 use Rattle.model.specs.Writes.{controlled, controlChanges, configured, effect}
 use Rattle.model.specs.Zone.{bit}
 use Rattle.model.proofs.Demands.Looks.{looks, looks-stays}
+use Rattle.model.proofs.Laws.Checks.{every-outcome}
 use Rattle.model.proofs.Laws.Handled.{handled-all}
 use Rattle.model.proofs.Laws.Inner.{Inner, event-inner, configured-inner, controlled-inner}
 use Rattle.model.proofs.Laws.Steps.{SameZones}
@@ -75,11 +74,6 @@ module _ (g : ℕ) (s : Shelf) where
 
   -- ---- every crossed-out operation
 
-  outcome-unseen : (taken : Taken) (new : Shelf) → looks g new ≡ looks g s
-      → looks g (outcome taken s new .shelf) ≡ looks g s
-  outcome-unseen Done new e = e
-  outcome-unseen (NotDone house) new e = refl
-
   pub crossed-unseen : (operation : Operation) → T (crossedOut g s operation)
       → looks g (next s operation) ≡ looks g s
   unfolding next event crossedOut
@@ -87,7 +81,7 @@ module _ (g : ℕ) (s : Shelf) where
       handled-all (λ x. looks g (x .shelf) ≡ looks g s) s h frame (length out) (λ house. refl) refl
       (λ e. unseen-effect h frame (crossed-request-iff g s h frame out .0 t))
   crossed-unseen (Event p source amount) t =
-      outcome-unseen (eventTaken s p source amount) _
+      every-outcome (λ t. looks g t ≡ looks g s) (eventTaken s p source amount) s _ refl
       (looks-stays g s p (eventOn source amount) (event-inner source amount)
       (is-false (reaches s g p) (crossed-event-iff g s p source amount .0 t .1)))
   crossed-unseen (LinkChange p) t = absurd t

@@ -3,7 +3,7 @@
 use Prim.Native.Nat.{ℕ, _+_, _*_, _≤_, _<_}
 use native.Mathlib.Omega.{arith}
 use mathlib.Core.Path.{_≡_, refl, subst⁻¹}
-use mathlib.Core.Logic.{_↔_, Iff·trans}
+use mathlib.Core.Logic.{_↔_, Iff·trans, Iff·and}
 use mathlib.Core.List.{List, [], _∷_, List·Memᴰ, List·Memᴰ·head, List·Memᴰ·tail}
 use lib.Dec.{T}
 use lib.ListN.{length}
@@ -11,7 +11,8 @@ use Rattle.model.specs.declared.Shelf.{Shelf}
 use Rattle.model.specs.Bytes.{byte, word}
 use Rattle.model.specs.Reach.{reaches}
 use Rattle.model.specs.Writes.{effect}
-use Rattle.model.specs.Request.{functionOf, asked, known}
+use Rattle.model.specs.Request.{functionOf, known, lengthRight, asked}
+use Rattle.model.specs.Results.{countRight}
 use Rattle.model.specs.Server.{served, lentAfter}
 use Rattle.model.specs.Shelf.{exists}
 use Rattle.model.proofs.Demands.Effects.{Controlled, controlled-effect, Configured, configured-effect}
@@ -51,50 +52,56 @@ ConfigurePasses s g frame =
 
 -- ---- accepted exactly when they pass
 
+-- the checks of a write, those of its contents last
+write-iff : (s : Shelf) (g : ℕ) (frame : List ℕ) (size : ℕ) (lengths : List ℕ) {Checked Contents : Type 0}
+    → T (lengthRight frame) ↔ ((length frame ≡ size) × List·Memᴰ (byte frame 3) lengths) → Checked ↔ Contents
+    → (T (lengthRight frame)
+    × T (countRight s (word frame 4))
+    × T (exists s (byte frame 9))
+    × T (reaches s g (byte frame 9))
+    × Checked)
+    ↔ Passes s g frame size lengths Contents
+write-iff s g frame size lengths right contents = (
+  λ (l, c, there, reached, checked).
+      record {
+        true-length = right .0 l .0;
+        byte-3 = right .0 l .1;
+        count = count-right s (word frame 4) .0 c;
+        phy = there;
+        zone = reached;
+        contents = contents .0 checked;
+      },
+  λ w. (
+    right .1 (w .true-length, w .byte-3),
+    count-right s (word frame 4) .1 (w .count),
+    w .phy,
+    w .zone,
+    contents .1 (w .contents),
+  ),
+)
+
 control-iff : (s : Shelf) (g : ℕ) (frame : List ℕ) → functionOf frame ≡ 0x91
     → AllPass (checks s g frame)
     ↔ ControlPasses s g frame
 unfolding known
 control-iff s g frame e =
-    let right = right-length-91 frame e in
-    let count = count-right s (word frame 4) in
-    let operation = known-operation (byte frame 10) in
-    rw e (
-      λ (_, (len, (cnt, (there, (_, (reached, (op, _))))))).
-          record {
-            true-length = right .0 len .0;
-            byte-3 = right .0 len .1;
-            count = count .0 cnt;
-            phy = there;
-            zone = reached;
-            contents = operation .0 op;
-          },
-      λ w.
-          (tt, (right .1 (w .true-length, w .byte-3), (count .1 (w .count), (w .phy, (tt, (w .zone, (operation .1 (w .contents), (tt, (tt, (tt, tt)))))))))),
-    )
+    Iff·trans (rw e (
+      λ (_, (l, (c, (there, (_, (reached, (operation, _))))))). (l, c, there, reached, operation),
+      λ (l, c, there, reached, operation). (tt, (l, (c, (there, (tt, (reached, (operation, (tt, (tt, (tt, tt)))))))))),
+    ))
+    (write-iff s g frame 40 (0x09 ∷ 0x00 ∷ []) (right-length-91 frame e) (known-operation (byte frame 10)))
 
 configure-iff : (s : Shelf) (g : ℕ) (frame : List ℕ) → functionOf frame ≡ 0x93
     → AllPass (checks s g frame)
     ↔ ConfigurePasses s g frame
 unfolding known
 configure-iff s g frame e =
-    let right = right-length-93 frame e in
-    let count = count-right s (word frame 4) in
-    let few = leb-iff (byte frame 11) 4 in
-    let sources = sources-iff frame in
-    rw e (
-      λ (_, (len, (cnt, (there, (_, (reached, (_, (_, (d, (src, _)))))))))).
-          record {
-            true-length = right .0 len .0;
-            byte-3 = right .0 len .1;
-            count = count .0 cnt;
-            phy = there;
-            zone = reached;
-            contents = (few .0 d, sources .0 src);
-          },
-      λ w.
-          (tt, (right .1 (w .true-length, w .byte-3), (count .1 (w .count), (w .phy, (tt, (w .zone, (tt, (tt, (few .1 (w .contents .0), (sources .1 (w .contents .1), tt)))))))))),
-    )
+    Iff·trans (rw e (
+      λ (_, (l, (c, (there, (_, (reached, (_, (_, (few, (sources, _)))))))))). (l, c, there, reached, (few, sources)),
+      λ (l, c, there, reached, (few, sources)). (tt, (l, (c, (there, (tt, (reached, (tt, (tt, (few, (sources, tt)))))))))),
+    ))
+    (write-iff s g frame (12 + 8 * byte frame 11) ((2 + 2 * byte frame 11) ∷ []) (right-length-93 frame e)
+    (Iff·and (leb-iff (byte frame 11) 4) (sources-iff frame)))
 
 module _ (s : Shelf) (g : ℕ) (frame out : List ℕ) (answered : NotRefused s g frame out) where
   accepted-iff : (byte (lentAfter s g frame out) 2 ≡ 0x00) ↔ AllPass (checks s g frame)

@@ -55,6 +55,16 @@ pub outcome-taken : (taken : Taken) (old new : Shelf) → outcome taken old new 
 outcome-taken Done old new = refl
 outcome-taken (NotDone house) old new = refl
 
+-- what holds of the old shelf and of the new one holds of the shelf afterwards; of two reports at once, and of one
+pub both-outcomes : (P : Shelf → Shelf → Type 0) (taken : Taken) (s t new new′ : Shelf) → P s t → P new new′
+    → P (outcome taken s new .shelf) (outcome taken t new′ .shelf)
+both-outcomes P Done s t new new′ old done = done
+both-outcomes P (NotDone house) s t new new′ old done = old
+
+pub every-outcome : (P : Shelf → Type 0) (taken : Taken) (s new : Shelf) → P s → P new
+    → P (outcome taken s new .shelf)
+every-outcome P taken s new = both-outcomes (λ x y. P x) taken s s new new
+
 -- and a refusal leaves the old shelf
 pub outcome-stays : (taken : Taken) (old new : Shelf) → 1 ≤ takenNumber taken → outcome taken old new .shelf ≡ old
 outcome-stays Done old new refused = absurd (omega arith)

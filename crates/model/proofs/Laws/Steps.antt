@@ -12,15 +12,15 @@ use Rattle.model.specs.declared.Request.the-variants.{ReportGeneral, Rep
 use Rattle.model.specs.declared.Request.the-variants.{ReportPhyErrorLog, ReportPhyEvent, PhyControl}
 use Rattle.model.specs.declared.Request.the-variants.{ConfigurePhyEvent}
 use Rattle.model.specs.declared.Shelf.{Shelf}
-use Rattle.model.specs.declared.Taken.{Taken}
 use Rattle.model.specs.declared.Taken.the-variants.{Done, NotDone}
 use Rattle.model.specs.Counting.{originate, eventOn, changeOn}
 use Rattle.model.specs.Reports.{eventTaken, event, linkChange, reducedFunctionality, sesNotice}
 use Rattle.model.specs.Request.{asked}
 use Rattle.model.specs.Runs.{Operation, Ask, Event, LinkChange, ReducedFunctionality, Ses, QueryReach, next}
-use Rattle.model.specs.Shelf.{noPhy, exists, phyAt, put, putDevice, outcome}
+use Rattle.model.specs.Shelf.{noPhy, exists, phyAt, put, putDevice}
 use Rattle.model.specs.Tests.{given}
 use Rattle.model.specs.Writes.{controlled, controlChanges, configured, effect}
+use Rattle.model.proofs.Laws.Checks.{every-outcome}
 use Rattle.model.proofs.Laws.Handled.{handled-all}
 use Rattle.model.proofs.Laws.Inner.{event-inner, change-inner, configured-inner, controlled-inner}
 use Rattle.model.proofs.Laws.Places.{change-at}
@@ -61,20 +61,15 @@ module _ (Keeps : (Phy → Phy) → Type 0) (s : Shelf) where
   effect-step g frame out (ConfigurePhyEvent expected clear p d) keeps =
       Moves p (configured frame d clear) false (keeps .1 d clear) refl
 
-  -- a report that is done, or refused
-  outcome-step : (taken : Taken) (t : Shelf) → Step Keeps s t → Step Keeps s (outcome taken s t .shelf)
-  outcome-step Done t step = step
-  outcome-step (NotDone house) t step = Stays refl
-
   pub next-step : (operation : Operation) → KeptBy Keeps operation → Step Keeps s (next s operation)
   unfolding next event linkChange reducedFunctionality sesNotice
   next-step (Ask g frame out) keeps =
       handled-all (λ h. Step Keeps s (h .shelf)) s g frame (length out) (λ house. Stays refl) (Stays refl)
       (λ e. effect-step g frame out (asked frame) keeps)
   next-step (Event p source amount) keeps =
-      outcome-step (eventTaken s p source amount) _ (Moves p (eventOn source amount) false keeps refl)
+      every-outcome (Step Keeps s) (eventTaken s p source amount) s _ (Stays refl) (Moves p (eventOn source amount) false keeps refl)
   next-step (LinkChange p) keeps =
-      outcome-step (given (not (exists s p)) (NotDone NoSuchPhy) Done) _
+      every-outcome (Step Keeps s) (given (not (exists s p)) (NotDone NoSuchPhy) Done) s _ (Stays refl)
       (Moves p (λ x. changeOn (x .enabled) x) true keeps refl)
   next-step ReducedFunctionality keeps = Notes true false refl
   next-step Ses keeps = Notes false true refl
