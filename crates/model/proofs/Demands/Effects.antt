@@ -61,8 +61,8 @@ errorless x = phyWith x (x .enabled) (replicate 4 0) (x .monitors) (x .change0) 
 -- 05h sets the four error counts to 0." Change also moves the change count. There are as many phys as before, and no other phy,
 -- nor any number under FFh, is another.
 pub record Controlled (s : Shelf) (p operation : ℕ) (t : Shelf) : Type 0 where
-  pub size : length (t .phys) ≡ length (s .phys)
   pub only : OnlyPhy s p t
+  pub size : length (t .phys) ≡ length (s .phys)
   pub none : operation ≡ 0x00 → t ≡ s
   pub link-reset : operation ≡ 0x01 → Has t p (changeOriginated (phyAt s p) true) (originate (s .changes))
   pub disable : operation ≡ 0x03 → phyAt s p .enabled ≡ true
@@ -76,8 +76,8 @@ pub controlled-effect : (s : Shelf) (frame : List ℕ) (expected p operation : �
 unfolding effect controlled controlChanges changeOn
 controlled-effect s frame expected p operation h =
     record {
-      size = length-set (s .phys) p _;
       only = put-only s p _ _;
+      size = length-set (s .phys) p _;
       none = λ e. rw (e, set-getD);
       link-reset = λ e. rw e (getD-set-same (s .phys) p _ noPhy h, refl);
       disable = λ e on. rw (e, on) (getD-set-same (s .phys) p _ noPhy h, refl);
@@ -127,8 +127,8 @@ pub record MonitorConfigured (frame : List ℕ) (i : ℕ) (old new : Monitor) : 
 -- ".. and if there is one such monitor or more, Expander 2h is originated once." Of the phy, nothing but the monitors and
 -- Expander 2h is another; of the rest of the shelf nothing, the change count among it.
 pub record Configured (s : Shelf) (p : ℕ) (frame : List ℕ) (t : Shelf) : Type 0 where
-  pub size : length (t .phys) ≡ length (s .phys)
   pub only : OnlyPhy s p t
+  pub size : length (t .phys) ≡ length (s .phys)
   pub changes : t .changes ≡ s .changes
   pub rest : let x : Phy = phyAt s p in
       phyAt t p
@@ -306,8 +306,8 @@ configured-effect s frame expected p h =
     let new = getD-set-same (s .phys) p (configured frame (byte frame 11) (clears frame) x) noPhy h ∙ configured-is frame x in
     let (finding, missing) = cond-iff (clears frame && anyPeak ms) _ (originate (x .expander2)) (x .expander2) .0 refl in
     record {
-      size = length-set (s .phys) p _;
       only = put-only s p _ _;
+      size = length-set (s .phys) p _;
       changes = refl;
       rest = rw new;
       number = rw new (number-after frame x);

@@ -43,10 +43,10 @@ module _ (g : ℕ) (s : Shelf) where
   looks-decides h frame ReportGeneral = refl
   looks-decides h frame ReportManufacturer = refl
   looks-decides h frame (ReportBroadcast kind) = refl
-  looks-decides h frame (ReportPhyErrorLog p) = rw (looks-reaches g s h p)
-  looks-decides h frame (ReportPhyEvent p) = rw (looks-reaches g s h p)
-  looks-decides h frame (PhyControl expected p operation) = rw (looks-reaches g s h p)
-  looks-decides h frame (ConfigurePhyEvent expected clear p d) = rw (looks-reaches g s h p)
+  looks-decides h frame (ReportPhyErrorLog p) = simp (looks-reaches g s)
+  looks-decides h frame (ReportPhyEvent p) = simp (looks-reaches g s)
+  looks-decides h frame (PhyControl expected p operation) = simp (looks-reaches g s)
+  looks-decides h frame (ConfigurePhyEvent expected clear p d) = simp (looks-reaches g s)
 
   looks-verdict : (h : ℕ) (frame : List ℕ) → verdict (looks g s) h frame ≡ verdict s h frame
   unfolding verdict

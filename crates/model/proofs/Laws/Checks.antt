@@ -1,23 +1,21 @@
 -- When none of a row of house refusals is given, and what is known of a request that passed its checks. Assumes nothing.
 use Prim.Native.Nat.{ℕ, _≤_}
 use native.Mathlib.Omega.{arith}
-use mathlib.Core.Path.{_≡_, refl, sym, _∙_}
+use mathlib.Core.Path.{_≡_, refl}
 use mathlib.Core.Logic.{_↔_, Iff·trans}
-use mathlib.Core.Bool.{Bool, true, false, not, false≢true}
+use mathlib.Core.Bool.{Bool, true, not, false≢true}
 use lib.Dec.{T, T-not, not-T}
 use Rattle.model.specs.declared.FunctionResult.{FunctionResult}
-use Rattle.model.specs.declared.FunctionResult.the-variants.{Accepted, InvalidExpanderChangeCount, PhyDoesNotExist}
-use Rattle.model.specs.declared.FunctionResult.the-variants.{PhyVacant, SmpZoneViolation}
 use Rattle.model.specs.declared.House.{House}
 use Rattle.model.specs.declared.Shelf.{Shelf}
 use Rattle.model.specs.declared.Taken.{Taken}
 use Rattle.model.specs.declared.Taken.the-variants.{Done, NotDone}
 use Rattle.model.specs.House.{takenNumber}
 use Rattle.model.specs.Reach.{reaches}
-use Rattle.model.specs.Results.{accepted, countRight, checkPhy, checkRead, checkWrite}
-use Rattle.model.specs.Shelf.{exists, outcome}
-use Rattle.model.specs.Tests.{check, given}
-use Rattle.model.proofs.Laws.Tests.{check-iff, not-not-iff}
+use Rattle.model.specs.Results.{accepted, checkRead, checkWrite}
+use Rattle.model.specs.Shelf.{outcome}
+use Rattle.model.specs.Tests.{given}
+use Rattle.model.proofs.Laws.Tests.{check-iff, not-not-iff, not-false, check-same, check-map}
 
 refused-not-done : (house : House) → NotDone house ≡ Done → ⊥
 refused-not-done house e = let z : _≡_ {A = ℕ} 0 1 = cc in omega arith
@@ -70,24 +68,13 @@ pub outcome-stays : (taken : Taken) (old new : Shelf) → 1 ≤ takenNumber take
 outcome-stays Done old new refused = absurd (omega arith)
 outcome-stays (NotDone house) old new refused = refl
 
--- ---- A request that is accepted passed each check: its phy is reached.
-
-accepted-check : (b : Bool) (failure rest : FunctionResult) → accepted failure ≡ false
-    → accepted (check b failure rest) ≡ true → (b ≡ true) × (accepted rest ≡ true)
-accepted-check true failure rest bad e = (refl, e)
-accepted-check false failure rest bad e = absurd (false≢true (sym bad ∙ e))
-
--- behind the zone's check, of a read and of a write
-phy-reached : (s : Shelf) (g p : ℕ) (notReached rest : FunctionResult) → accepted notReached ≡ false
-    → accepted (checkPhy s g p notReached rest) ≡ true → reaches s g p ≡ true
-phy-reached s g p notReached rest bad e =
-    accepted-check (reaches s g p) notReached rest bad (accepted-check (exists s p) PhyDoesNotExist _ refl e .1) .0
+-- ---- The phy of a request that is accepted is reached, wherever the zone's check stands among the others.
 
 pub read-reached : (s : Shelf) (g p : ℕ) → accepted (checkRead s g p) ≡ true → reaches s g p ≡ true
-read-reached s g p e = phy-reached s g p PhyVacant Accepted refl e
+read-reached s g p e =
+    not-false (reaches s g p) (λ out. false≢true (simp (check-map accepted, out, check-same) at e))
 
 pub write-reached : (s : Shelf) (g expected p : ℕ) (contents : FunctionResult)
     → accepted (checkWrite s g expected p contents) ≡ true → reaches s g p ≡ true
 write-reached s g expected p contents e =
-    phy-reached s g p SmpZoneViolation contents refl
-    (accepted-check (countRight s expected) InvalidExpanderChangeCount _ refl e .1)
+    not-false (reaches s g p) (λ out. false≢true (simp (check-map accepted, out, check-same) at e))

@@ -38,6 +38,10 @@ pub is-false : (a : Bool) → (T a → ⊥) → a ≡ false
 is-false true no-a = absurd (no-a tt)
 is-false false no-a = refl
 
+pub not-false : (a : Bool) → (a ≡ false → ⊥) → a ≡ true
+not-false true other = refl
+not-false false other = absurd (other refl)
+
 -- the denial of a test, from what the test says
 pub denied-iff : (a : Bool) {A : Type 0} → T a ↔ A → T (not a) ↔ (A → ⊥)
 denied-iff a f = (λ t x. T-not a t (f .1 x), λ no-a. not-T a (λ t. no-a (f .0 t)))
@@ -166,6 +170,11 @@ pub check-iff : {A : Type 0} (b : Bool) (failure rest good : A) → (failure ≡
     → (check b failure rest ≡ good) ↔ (T b × (rest ≡ good))
 check-iff true failure rest good bad = (λ e. (tt, e), λ h. h .1)
 check-iff false failure rest good bad = (λ e. absurd (bad e), λ h. absurd (h .0))
+
+-- a check with the same on both sides
+pub check-same : {A : Type 0} (b : Bool) (x : A) → check b x x ≡ x
+check-same true x = refl
+check-same false x = refl
 
 -- what is made of the outcome of a check
 pub check-map : {A B : Type 0} (f : A → B) (b : Bool) (failure rest : A)
