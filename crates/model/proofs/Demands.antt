@@ -7,6 +7,7 @@ pub mod Writes
 pub mod Effects
 pub mod Frames
 pub mod Invariant
+pub mod ChangeCount
 pub mod Outcomes
 -- demand 3: what a shelf looks like to a group, one operation, a crossed-out one, whole runs, and two answers for readers
 pub mod Looks

@@ -6,7 +6,7 @@ pub mod Rising
 pub mod Join
 pub mod Picked
 pub mod Handled
-pub mod Inner
+pub mod PhyChanges
 pub mod Steps
 pub mod Lowest
 pub mod Drawn

@@ -25,8 +25,9 @@ use Rattle.model.specs.Writes.{withoutErrors, controlled, setMonitor, se
 use Rattle.model.specs.Writes.{anyPeak, clearOn, configured}
 use Rattle.model.specs.Zone.{row}
 use Rattle.model.proofs.Laws.Join.{join-length}
+use Rattle.model.proofs.Laws.PhyChanges.{moved}
 use Rattle.model.proofs.Laws.Places.{All, Each, change-at, map-at, replicate-each}
-use Rattle.model.proofs.Laws.Steps.{moved, Step, KeptBy, next-step, step-frame, step-phys, Counts, step-counts}
+use Rattle.model.proofs.Laws.Steps.{Step, KeptBy, next-step, step-frame, step-phys, Counts, step-counts}
 use Rattle.model.proofs.Laws.Tests.{cond-by, cond-both}
 use Rattle.model.proofs.Plain.Counting.{originate-range}
 use Rattle.model.proofs.Plain.Shelf.{SameFrame}
@@ -255,8 +256,8 @@ configure-keeps frame fit d clear x =
 -- ---- every operation keeps it
 
 -- what each change of a phy keeps
-abbrev KeepsFit : (Phy → Phy) → Type 0
-KeepsFit f = (x : Phy) → Kept x (f x)
+abbrev KeepsFit : (Phy → Phy) → (Phy → Bool) → Type 0
+KeepsFit f moves = (x : Phy) → Kept x (f x)
 
 fit-kept : (operation : Operation) → OperationFits operation → KeptBy KeepsFit operation
 fit-kept (Ask g frame out) fit = (control-keeps, configure-keeps frame fit)
@@ -271,7 +272,7 @@ moved-fits′ before after (b, e) h = rw e (moved-fits b before h)
 
 module _ (s t : Shelf) (step : Step KeepsFit s t) where
   kept-phys : (p : ℕ) → Kept (phyAt s p) (phyAt t p)
-  kept-phys = step-phys KeepsFit Kept kept-same (λ f keeps x y kept. kept-then x y (f y) kept (keeps y)) s t step
+  kept-phys = step-phys KeepsFit Kept kept-same (λ f moves keeps x y kept. kept-then x y (f y) kept (keeps y)) s t step
 
   step-fits : Fits s → Fits t
   step-fits f =

@@ -12,7 +12,7 @@ use Rattle.model.specs.declared.Shelf.{Shelf}
 use Rattle.model.specs.Reach.{reaches}
 use Rattle.model.specs.Shelf.{noPhy, phyAt, shelfWith, put}
 use Rattle.model.specs.Zone.{row, rowReaches}
-use Rattle.model.proofs.Laws.Inner.{Inner}
+use Rattle.model.proofs.Laws.PhyChanges.{Inner}
 use Rattle.model.proofs.Laws.Tests.{is-true}
 
 -- A phy as a row sees it: whole where the row reaches it. Where it does not, its numbers are not seen; its group and whether it is

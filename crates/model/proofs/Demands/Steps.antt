@@ -31,7 +31,7 @@ use Rattle.model.specs.Writes.{controlled, controlChanges, configured, e
 use Rattle.model.proofs.Demands.Looks.{looks, looks-reaches, looks-reached, looks-twice}
 use Rattle.model.proofs.Demands.Looks.{looks-change}
 use Rattle.model.proofs.Laws.Checks.{both-outcomes, read-reached}
-use Rattle.model.proofs.Laws.Inner.{enablesBy, event-inner, change-inner, configured-inner, controlled-inner}
+use Rattle.model.proofs.Laws.PhyChanges.{enablesBy, event-inner, change-inner, configured-inner, controlled-inner}
 use Rattle.model.proofs.Laws.Handled.{verdict, both-handled, both-concluded, accepted-decided}
 
 -- ---- judging

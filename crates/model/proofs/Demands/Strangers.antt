@@ -17,13 +17,12 @@ use Rattle.model.specs.declared.Request.the-variants.{ConfigurePhyEvent}
 use Rattle.model.specs.declared.Shelf.{Shelf}
 use Rattle.model.specs.declared.Taken.the-variants.{Done, NotDone}
 use Rattle.model.specs.Bytes.{byte, word}
-use Rattle.model.specs.Counting.{originate, changeOn}
 use Rattle.model.specs.Reach.{reaches}
 use Rattle.model.specs.Reports.{eventTaken, event, linkChange, reducedFunctionality, sesNotice}
 use Rattle.model.specs.Request.{functionOf, known, lengthRight, asked}
 use Rattle.model.specs.Results.{resultCode, accepted, countRight, decide}
 use Rattle.model.specs.Server.{served, lentAfter}
-use Rattle.model.specs.Shelf.{exists, phyAt, put, outcome}
+use Rattle.model.specs.Shelf.{exists, phyAt}
 use Rattle.model.specs.Tests.{check, given, oneOf}
 use Rattle.model.specs.Writes.{effect}
 use Rattle.model.proofs.Demands.Results.{Of, NotRefused, verdict-checks, result-byte, Failed, failed-result}
@@ -134,39 +133,18 @@ request-elsewhere s g frame out q unreached =
     handled-all (λ h. phyAt (h .shelf) q ≡ phyAt s q) s g frame (length out) (λ house. refl) refl
     (λ e. effect-elsewhere s g frame (asked frame) q unreached (accepted-decided s g frame e .2))
 
--- ---- Reports of a phy change that phy alone, and the change count only by Change.
+-- ---- Reports of a phy change that phy alone, and the device notices change none.
 
 pub event-only : (s : Shelf) (p source amount : ℕ) → OnlyPhy s p (event s p source amount .shelf)
 unfolding event
 event-only s p source amount =
     every-outcome (OnlyPhy s p) (eventTaken s p source amount) s _ (same-only s p) (put-only s p _ _)
 
-pub event-count : (s : Shelf) (p source amount : ℕ) → event s p source amount .shelf .changes ≡ s .changes
-unfolding event
-event-count s p source amount =
-    every-outcome (λ t. t .changes ≡ s .changes) (eventTaken s p source amount) s _ refl refl
-
 pub link-change-only : (s : Shelf) (p : ℕ) → OnlyPhy s p (linkChange s p .shelf)
 unfolding linkChange
 link-change-only s p =
     every-outcome (OnlyPhy s p) (given (not (exists s p)) (NotDone NoSuchPhy) Done) s _ (same-only s p) (put-only s p _ _)
 
-pub link-change-count : (s : Shelf) (p : ℕ)
-    → linkChange s p .shelf .changes ≡ cond (exists s p) (originate (s .changes)) (s .changes)
-unfolding linkChange
-link-change-count s p = go (exists s p)
-  where
-    go : (there : Bool)
-        → outcome (given (not there) (NotDone NoSuchPhy) Done) s (put s p (changeOn (phyAt s p .enabled) (phyAt s p)) (originate (s .changes))) .shelf .changes
-        ≡ cond there (originate (s .changes)) (s .changes)
-    go true = refl
-    go false = refl
-
--- the device notices change neither a phy nor the change count
-pub notices-elsewhere : (s : Shelf)
-    → (reducedFunctionality s .phys ≡ s .phys)
-    × (reducedFunctionality s .changes ≡ s .changes)
-    × (sesNotice s .phys ≡ s .phys)
-    × (sesNotice s .changes ≡ s .changes)
+pub notices-elsewhere : (s : Shelf) → (reducedFunctionality s .phys ≡ s .phys) × (sesNotice s .phys ≡ s .phys)
 unfolding reducedFunctionality sesNotice
-notices-elsewhere s = (refl, refl, refl, refl)
+notices-elsewhere s = (refl, refl)

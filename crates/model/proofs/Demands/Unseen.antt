@@ -22,7 +22,7 @@ use Rattle.model.specs.Zone.{bit}
 use Rattle.model.proofs.Demands.Looks.{looks, looks-stays}
 use Rattle.model.proofs.Laws.Checks.{every-outcome}
 use Rattle.model.proofs.Laws.Handled.{handled-all}
-use Rattle.model.proofs.Laws.Inner.{Inner, event-inner, configured-inner, controlled-inner}
+use Rattle.model.proofs.Laws.PhyChanges.{Inner, event-inner, configured-inner, controlled-inner}
 use Rattle.model.proofs.Laws.Steps.{SameZones}
 use Rattle.model.proofs.Laws.Tests.{is-false, by-each}
 use Rattle.model.proofs.Plain.CrossedOut.{CrossedRequest, crossed-request-iff, crossed-event-iff}

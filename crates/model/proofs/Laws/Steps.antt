@@ -2,7 +2,7 @@
 -- phy keeps, every operation keeps. Assumes nothing.
 use Prim.Native.Nat.{ℕ}
 use mathlib.Core.Path.{_≡_, refl, _∙_}
-use mathlib.Core.Bool.{Bool, true, false, not, cond}
+use mathlib.Core.Bool.{Bool, true, false, not}
 use mathlib.Core.List.{List}
 use lib.ListN.{length, length-set}
 use Rattle.model.specs.declared.House.the-variants.{NoSuchPhy}
@@ -13,7 +13,7 @@ use Rattle.model.specs.declared.Request.the-variants.{ReportPhyErrorLog,
 use Rattle.model.specs.declared.Request.the-variants.{ConfigurePhyEvent}
 use Rattle.model.specs.declared.Shelf.{Shelf}
 use Rattle.model.specs.declared.Taken.the-variants.{Done, NotDone}
-use Rattle.model.specs.Counting.{originate, eventOn, changeOn}
+use Rattle.model.specs.Counting.{eventOn, changeOn}
 use Rattle.model.specs.Reports.{eventTaken, event, linkChange, reducedFunctionality, sesNotice}
 use Rattle.model.specs.Request.{asked}
 use Rattle.model.specs.Runs.{Operation, Ask, Event, LinkChange, ReducedFunctionality, Ses, QueryReach, next}
@@ -22,32 +22,29 @@ use Rattle.model.specs.Tests.{given}
 use Rattle.model.specs.Writes.{controlled, controlChanges, configured, effect}
 use Rattle.model.proofs.Laws.Checks.{every-outcome}
 use Rattle.model.proofs.Laws.Handled.{handled-all}
-use Rattle.model.proofs.Laws.Inner.{event-inner, change-inner, configured-inner, controlled-inner}
+use Rattle.model.proofs.Laws.PhyChanges.{moved, event-inner, change-inner, configured-inner, controlled-inner}
 use Rattle.model.proofs.Laws.Places.{change-at}
 use Rattle.model.proofs.Plain.Shelf.{SameFrame, same-frame, put-frame, device-frame}
 
--- a count that is originated, or not
-abbrev pub moved : Bool → ℕ → ℕ
-moved b count = cond b (originate count) count
-
--- from s to t, where each change of a phy keeps what is asked
-pub data Step (Keeps : (Phy → Phy) → Type 0) (s t : Shelf) : Type 0 where
+-- From s to t. A change of a phy is what becomes of the phy, and whether that moves the change count; each keeps what is asked.
+pub data Step (Keeps : (Phy → Phy) → (Phy → Bool) → Type 0) (s t : Shelf) : Type 0 where
   Stays : t ≡ s → Step Keeps s t
-  Moves : (p : ℕ) (f : Phy → Phy) (b : Bool) → Keeps f → t ≡ put s p (f (phyAt s p)) (moved b (s .changes))
-      → Step Keeps s t
+  Moves : (p : ℕ) (f : Phy → Phy) (moves : Phy → Bool) → Keeps f moves
+      → t ≡ put s p (f (phyAt s p)) (moved (moves (phyAt s p)) (s .changes)) → Step Keeps s t
   Notes : (a b : Bool) → t ≡ putDevice s (moved a (s .expander3)) (moved b (s .ses0)) → Step Keeps s t
 
 -- what is asked of the changes that an operation may make
-abbrev pub KeptBy : ((Phy → Phy) → Type 0) → Operation → Type 0
+abbrev pub KeptBy : ((Phy → Phy) → (Phy → Bool) → Type 0) → Operation → Type 0
 KeptBy Keeps (Ask g frame out) =
-    ((operation : ℕ) → Keeps (controlled operation)) × ((d : ℕ) (clear : Bool) → Keeps (configured frame d clear))
-KeptBy Keeps (Event p source amount) = Keeps (eventOn source amount)
-KeptBy Keeps (LinkChange p) = Keeps (λ x. changeOn (x .enabled) x)
+    ((operation : ℕ) → Keeps (controlled operation) (controlChanges operation))
+    × ((d : ℕ) (clear : Bool) → Keeps (configured frame d clear) (λ x. false))
+KeptBy Keeps (Event p source amount) = Keeps (eventOn source amount) (λ x. false)
+KeptBy Keeps (LinkChange p) = Keeps (λ x. changeOn (x .enabled) x) (λ x. true)
 KeptBy Keeps ReducedFunctionality = Unit {0}
 KeptBy Keeps Ses = Unit {0}
 KeptBy Keeps (QueryReach g) = Unit {0}
 
-module _ (Keeps : (Phy → Phy) → Type 0) (s : Shelf) where
+module _ (Keeps : (Phy → Phy) → (Phy → Bool) → Type 0) (s : Shelf) where
   effect-step : (g : ℕ) (frame out : List ℕ) (request : Request) → KeptBy Keeps (Ask g frame out)
       → Step Keeps s (effect s frame request)
   unfolding effect
@@ -57,9 +54,9 @@ module _ (Keeps : (Phy → Phy) → Type 0) (s : Shelf) where
   effect-step g frame out (ReportPhyErrorLog p) keeps = Stays refl
   effect-step g frame out (ReportPhyEvent p) keeps = Stays refl
   effect-step g frame out (PhyControl expected p operation) keeps =
-      Moves p (controlled operation) (controlChanges operation (phyAt s p)) (keeps .0 operation) refl
+      Moves p (controlled operation) (controlChanges operation) (keeps .0 operation) refl
   effect-step g frame out (ConfigurePhyEvent expected clear p d) keeps =
-      Moves p (configured frame d clear) false (keeps .1 d clear) refl
+      Moves p (configured frame d clear) (λ x. false) (keeps .1 d clear) refl
 
   pub next-step : (operation : Operation) → KeptBy Keeps operation → Step Keeps s (next s operation)
   unfolding next event linkChange reducedFunctionality sesNotice
@@ -67,28 +64,29 @@ module _ (Keeps : (Phy → Phy) → Type 0) (s : Shelf) where
       handled-all (λ h. Step Keeps s (h .shelf)) s g frame (length out) (λ house. Stays refl) (Stays refl)
       (λ e. effect-step g frame out (asked frame) keeps)
   next-step (Event p source amount) keeps =
-      every-outcome (Step Keeps s) (eventTaken s p source amount) s _ (Stays refl) (Moves p (eventOn source amount) false keeps refl)
+      every-outcome (Step Keeps s) (eventTaken s p source amount) s _ (Stays refl) (Moves p (eventOn source amount) (λ x. false) keeps refl)
   next-step (LinkChange p) keeps =
       every-outcome (Step Keeps s) (given (not (exists s p)) (NotDone NoSuchPhy) Done) s _ (Stays refl)
-      (Moves p (λ x. changeOn (x .enabled) x) true keeps refl)
+      (Moves p (λ x. changeOn (x .enabled) x) (λ x. true) keeps refl)
   next-step ReducedFunctionality keeps = Notes true false refl
   next-step Ses keeps = Notes false true refl
   next-step (QueryReach g) keeps = Stays refl
 
 -- What no step changes: the phy number, the table and the identifier.
-pub step-frame : (Keeps : (Phy → Phy) → Type 0) (s t : Shelf) → Step Keeps s t → SameFrame s t
+pub step-frame : (Keeps : (Phy → Phy) → (Phy → Bool) → Type 0) (s t : Shelf) → Step Keeps s t → SameFrame s t
 step-frame Keeps s t (Stays e) = rw e (same-frame s)
-step-frame Keeps s t (Moves p f b keeps e) = rw e (put-frame s p (f (phyAt s p)) (moved b (s .changes)))
+step-frame Keeps s t (Moves p f moves keeps e) =
+    rw e (put-frame s p (f (phyAt s p)) (moved (moves (phyAt s p)) (s .changes)))
 step-frame Keeps s t (Notes a b e) = rw e (device-frame s (moved a (s .expander3)) (moved b (s .ses0)))
 
 -- What holds between a phy and itself, and still after each change, holds between each phy before the step and after it.
-pub step-phys : (Keeps : (Phy → Phy) → Type 0) (R : Phy → Phy → Type 0) → ((x : Phy) → R x x)
-    → ((f : Phy → Phy) → Keeps f → (x y : Phy) → R x y → R x (f y))
+pub step-phys : (Keeps : (Phy → Phy) → (Phy → Bool) → Type 0) (R : Phy → Phy → Type 0) → ((x : Phy) → R x x)
+    → ((f : Phy → Phy) (moves : Phy → Bool) → Keeps f moves → (x y : Phy) → R x y → R x (f y))
     → (s t : Shelf) → Step Keeps s t → (q : ℕ) → R (phyAt s q) (phyAt t q)
 step-phys Keeps R same on s t (Stays e) q = rw e (same (phyAt s q))
-step-phys Keeps R same on s t (Moves p f b keeps e) q =
+step-phys Keeps R same on s t (Moves p f moves keeps e) q =
     let x : Phy = phyAt s q in
-    rw e (change-at (R x) noPhy f (on f keeps x) (s .phys) p q (same x))
+    rw e (change-at (R x) noPhy f (on f moves keeps x) (s .phys) p q (same x))
 step-phys Keeps R same on s t (Notes a b e) q = rw e (same (phyAt s q))
 
 -- There are as many phys as before, and each device wide count is originated, or not.
@@ -98,14 +96,14 @@ pub record Counts (s t : Shelf) : Type 0 where
   pub expander3 : (b : Bool) × (t .expander3 ≡ moved b (s .expander3))
   pub ses0 : (b : Bool) × (t .ses0 ≡ moved b (s .ses0))
 
-pub step-counts : (Keeps : (Phy → Phy) → Type 0) (s t : Shelf) → Step Keeps s t → Counts s t
+pub step-counts : (Keeps : (Phy → Phy) → (Phy → Bool) → Type 0) (s t : Shelf) → Step Keeps s t → Counts s t
 step-counts Keeps s t (Stays e) =
     rw e (record { size = refl; changes = (false, refl); expander3 = (false, refl); ses0 = (false, refl) })
-step-counts Keeps s t (Moves p f b keeps e) =
+step-counts Keeps s t (Moves p f moves keeps e) =
     rw e
     (record {
       size = length-set (s .phys) p (f (phyAt s p));
-      changes = (b, refl);
+      changes = (moves (phyAt s p), refl);
       expander3 = (false, refl);
       ses0 = (false, refl);
     })
@@ -133,8 +131,8 @@ zones-on s t u first then =
       groups = λ p. then .groups p ∙ first .groups p;
     }
 
-abbrev KeepsGroup : (Phy → Phy) → Type 0
-KeepsGroup f = (x : Phy) → f x .group ≡ x .group
+abbrev KeepsGroup : (Phy → Phy) → (Phy → Bool) → Type 0
+KeepsGroup f moves = (x : Phy) → f x .group ≡ x .group
 
 group-kept : (operation : Operation) → KeptBy KeepsGroup operation
 group-kept (Ask g frame out) =
@@ -151,5 +149,5 @@ next-zones s operation =
     record {
       frame = step-frame KeepsGroup s (next s operation) step;
       groups =
-          step-phys KeepsGroup (λ x y. y .group ≡ x .group) (λ x. refl) (λ f keeps x y e. keeps y ∙ e) s (next s operation) step;
+          step-phys KeepsGroup (λ x y. y .group ≡ x .group) (λ x. refl) (λ f moves keeps x y e. keeps y ∙ e) s (next s operation) step;
     }

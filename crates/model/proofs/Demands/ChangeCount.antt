@@ -1,0 +1,79 @@
+-- "Change also moves the change count the same way", and nothing else does. Assumes nothing.
+use Prim.Native.Nat.{ℕ, _<_}
+use mathlib.Core.Path.{_≡_, refl, ap, _∙_}
+use mathlib.Core.Bool.{Bool, true, false, not}
+use lib.ListN.{length}
+use Rattle.model.specs.declared.House.the-variants.{NoSuchPhy}
+use Rattle.model.specs.declared.Phy.{Phy}
+use Rattle.model.specs.declared.Shelf.{Shelf}
+use Rattle.model.specs.declared.Taken.the-variants.{Done, NotDone}
+use Rattle.model.specs.Counting.{originate, changeOn}
+use Rattle.model.specs.Reports.{eventTaken, event, linkChange, reducedFunctionality, sesNotice}
+use Rattle.model.specs.Runs.{Operation, Ask, Event, LinkChange, ReducedFunctionality, Ses, QueryReach, next}
+use Rattle.model.specs.Shelf.{exists, phyAt, put, outcome}
+use Rattle.model.specs.Tests.{given}
+use Rattle.model.proofs.Laws.Checks.{every-outcome}
+use Rattle.model.proofs.Laws.PhyChanges.{moved, Changes, event-changes, change-changes, configured-changes}
+use Rattle.model.proofs.Laws.PhyChanges.{controlled-changes}
+use Rattle.model.proofs.Laws.Steps.{Step, Stays, Moves, Notes, KeptBy, next-step}
+use Rattle.model.proofs.Plain.Shelf.{put-same, put-other}
+
+-- ---- Every operation: the change count and the Change count of one phy are originated together, or neither is; and no other phy's is.
+
+pub record Together (s t : Shelf) : Type 0 where
+  pub originates : Bool
+  pub phy : ℕ
+  pub count : t .changes ≡ moved originates (s .changes)
+  pub here : phy < length (s .phys) → phyAt t phy .change0 ≡ moved originates (phyAt s phy .change0)
+  pub others : (q : ℕ) → (q ≡ phy → ⊥) → phyAt t q .change0 ≡ phyAt s q .change0
+
+all-change : (operation : Operation) → KeptBy Changes operation
+all-change (Ask g frame out) = (controlled-changes, configured-changes frame)
+all-change (Event p source amount) = event-changes source amount
+all-change (LinkChange p) = change-changes (λ b. b)
+all-change ReducedFunctionality = tt
+all-change Ses = tt
+all-change (QueryReach g) = tt
+
+step-together : (s t : Shelf) → Step Changes s t → Together s t
+step-together s t (Stays e) =
+    rw e (record { originates = false; phy = 0; count = refl; here = λ h. refl; others = λ q apart. refl })
+step-together s t (Moves p f moves changes e) =
+    let x : Phy = phyAt s p in
+    let n : ℕ = moved (moves x) (s .changes) in
+    rw e
+    (record {
+      originates = moves x;
+      phy = p;
+      count = refl;
+      here = λ h. ap (λ y. y .change0) (put-same s p (f x) n h) ∙ changes x;
+      others = λ q apart. ap (λ y. y .change0) (put-other s p (f x) n q apart);
+    })
+step-together s t (Notes a b e) =
+    rw e (record { originates = false; phy = 0; count = refl; here = λ h. refl; others = λ q apart. refl })
+
+pub next-together : (s : Shelf) (operation : Operation) → Together s (next s operation)
+next-together s operation = step-together s (next s operation) (next-step Changes s operation (all-change operation))
+
+-- ---- The reports: an event, and a device notice, leaves the change count; a link change on a phy that exists originates it.
+
+pub event-count : (s : Shelf) (p source amount : ℕ) → event s p source amount .shelf .changes ≡ s .changes
+unfolding event
+event-count s p source amount =
+    every-outcome (λ t. t .changes ≡ s .changes) (eventTaken s p source amount) s _ refl refl
+
+pub notices-count : (s : Shelf) → (reducedFunctionality s .changes ≡ s .changes) × (sesNotice s .changes ≡ s .changes)
+unfolding reducedFunctionality sesNotice
+notices-count s = (refl, refl)
+
+pub link-change-count : (s : Shelf) (p : ℕ) → linkChange s p .shelf .changes ≡ moved (exists s p) (s .changes)
+unfolding linkChange
+link-change-count s p = go (exists s p)
+  where
+    new : Shelf
+    new = put s p (changeOn (phyAt s p .enabled) (phyAt s p)) (originate (s .changes))
+
+    go : (there : Bool)
+        → outcome (given (not there) (NotDone NoSuchPhy) Done) s new .shelf .changes ≡ moved there (s .changes)
+    go true = refl
+    go false = refl
