@@ -1,7 +1,10 @@
 -- The further cases hold of the definitions too, by computation.
-use mathlib.Core.Path.{refl}
+use mathlib.Core.Path.{_≡_, refl}
 use mathlib.Core.Bool.{true, false}
-use Rattle.model.specs.Vectors.CrossedOut.{crossed, stay}
+use Rattle.model.specs.CrossedOut.{remains}
+use Rattle.model.specs.Runs.{answers}
+use Rattle.model.specs.ShelfW.{shelfW}
+use Rattle.model.specs.Vectors.CrossedOut.{crossed, stay, whole, rest}
 use Rattle.model.specs.Vectors.EasilyWrong.{easilyWrong}
 use Rattle.model.specs.Vectors.Frames.{frames}
 use Rattle.model.specs.Vectors.Peaks.{peaks}
@@ -9,6 +12,7 @@ use Rattle.model.specs.Vectors.Refusals.{refusals}
 use Rattle.model.specs.Vectors.Results.{results}
 use Rattle.model.specs.Vectors.Starts.{starts}
 use Rattle.model.specs.Vectors.Stays.{stays}
+use Rattle.model.specs.Vectors.Told.{mixed, to8, to32}
 use Rattle.model.proofs.Computes.{computes}
 use Rattle.model.proofs.Holds.{Holds, Fate}
 
@@ -57,3 +61,12 @@ pub stay-hold : Fate false stay
 unfolding stay computes
 stay-hold =
     (refl, (refl, (refl, (refl, (refl, (refl, (refl, (refl, (refl, (refl, (refl, (refl, (refl, (refl, (refl, (refl, (refl, (refl, (refl, (refl, (refl, (refl, (refl, (refl, (refl, (refl, (refl, (refl, (refl, (refl, (refl, (refl, (refl, (refl, tt))))))))))))))))))))))))))))))))))
+
+pub remains-hold : remains 8 shelfW whole ≡ rest
+unfolding whole rest computes
+remains-hold = refl
+
+-- what a group gets in a run
+pub told-hold : (answers 8 shelfW mixed ≡ to8) × (answers 32 shelfW mixed ≡ to32)
+unfolding mixed to8 to32 computes
+told-hold = (refl, refl)

@@ -9,3 +9,4 @@ pub mod Frames
 pub mod Stays
 pub mod Peaks
 pub mod CrossedOut
+pub mod Told

@@ -89,16 +89,11 @@ controlled-effect s frame expected p operation h =
 pub controlled-settled : {s t u : Shelf} {p operation : ℕ} → List·Memᴰ operation (0x00 ∷ 0x01 ∷ 0x03 ∷ 0x05 ∷ [])
     → Controlled s p operation t → Controlled s p operation u → t ≡ u
 controlled-settled {s} {t} {u} {p} {operation} known a b =
-    by-each operation (0x00 ∷ 0x01 ∷ 0x03 ∷ 0x05 ∷ []) known (
-      λ e. a .none e ∙ sym (b .none e),
-      (
-        λ e. alike (a .link-reset e) (b .link-reset e),
-        (
-          λ e. disabled e (phyAt s p .enabled) refl,
-          (λ e. alike (a .clear-errors e) (b .clear-errors e), tt),
-        ),
-      ),
-    )
+    by-each (t ≡ u) operation (0x00 ∷ 0x01 ∷ 0x03 ∷ 0x05 ∷ []) known
+    (λ e. a .none e ∙ sym (b .none e))
+    (λ e. alike (a .link-reset e) (b .link-reset e))
+    (λ e. disabled e (phyAt s p .enabled) refl)
+    (λ e. alike (a .clear-errors e) (b .clear-errors e))
   where
     alike : {x : Phy} {n : ℕ} → Has t p x n → Has u p x n → t ≡ u
     alike l r = same-shelf (a .only) (b .only) (a .size) (b .size) (cc) (cc)

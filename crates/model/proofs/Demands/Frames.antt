@@ -3,7 +3,7 @@
 use Prim.Native.Nat.{ℕ, _+_, _*_, _≤_, _<_, zero-le}
 use native.Mathlib.Nat.{le-refl}
 use native.Mathlib.Omega.{arith}
-use mathlib.Core.Path.{_≡_, refl, sym, ap, subst, _∙_}
+use mathlib.Core.Path.{_≡_, refl, subst}
 use mathlib.Core.Bool.{Bool, true, false, cond}
 use mathlib.Core.List.{List, [], _∷_, List·Memᴰ, List·Memᴰ·head, List·Memᴰ·tail}
 use borrow.Author.Tests.{ltb-true, ltb-false, eqb-true}
@@ -35,10 +35,9 @@ use Rattle.model.proofs.Demands.Invariant.{BytesFit, Fits}
 use Rattle.model.proofs.Laws.Handled.{verdict, sent-all, accepted-decided}
 use Rattle.model.proofs.Laws.Join.{join-few}
 use Rattle.model.proofs.Laws.Places.{All, all-each, each-all, cut-each, sets-each, sets-before}
-use Rattle.model.proofs.Laws.Tests.{cond-both, by-each}
+use Rattle.model.proofs.Laws.Tests.{cond-both}
 use Rattle.model.proofs.Plain.Reply.{broadcast-bytes-length, listed-iff, kept-small}
-use Rattle.model.proofs.Plain.Request.{known-iff, asked-00, asked-01, asked-06, asked-11, asked-14, asked-91}
-use Rattle.model.proofs.Plain.Request.{asked-93}
+use Rattle.model.proofs.Plain.Request.{by-function}
 
 -- "Response byte 0 is 41h, byte 1 the function, byte 2 the result, byte 3 the number of dwords that follow."
 pub record Framed (function result : ℕ) (bytes : List ℕ) : Type 0 where
@@ -129,25 +128,7 @@ respond-framed s g request = accepted-short s g request .0
 -- a frame of a known function asks for that function
 pub asked-function : (frame : List ℕ) → T (known (functionOf frame)) → requestFunction (asked frame) ≡ functionOf frame
 asked-function frame t =
-    by-each (functionOf frame) (0x00 ∷ 0x01 ∷ 0x06 ∷ 0x11 ∷ 0x14 ∷ 0x91 ∷ 0x93 ∷ []) (known-iff (functionOf frame) .0 t) (
-      λ e. ap requestFunction (asked-00 frame e) ∙ sym e,
-      (
-        λ e. ap requestFunction (asked-01 frame e) ∙ sym e,
-        (
-          λ e. ap requestFunction (asked-06 frame e) ∙ sym e,
-          (
-            λ e. ap requestFunction (asked-11 frame e) ∙ sym e,
-            (
-              λ e. ap requestFunction (asked-14 frame e) ∙ sym e,
-              (
-                λ e. ap requestFunction (asked-91 frame e) ∙ sym e,
-                (λ e. ap requestFunction (asked-93 frame e) ∙ sym e, tt),
-              ),
-            ),
-          ),
-        ),
-      ),
-    )
+    by-function frame (λ function request. requestFunction request ≡ function) t refl refl refl refl refl refl refl
 
 sent-short : (s : Shelf) (g : ℕ) (frame : List ℕ) (room : ℕ) (bytes : List ℕ)
     → handle s g frame room .reply ≡ Sends bytes → Short (functionOf frame) (resultCode (verdict s g frame)) bytes

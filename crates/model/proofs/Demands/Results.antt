@@ -3,13 +3,15 @@
 use Prim.Native.Nat.{ℕ, _≤_, _<_}
 use native.Mathlib.Omega.{arith}
 use mathlib.Core.Path.{_≡_, refl, sym, ap, _∙_}
-use mathlib.Core.Logic.{_↔_, _⊎_, Iff·trans}
+use mathlib.Core.Logic.{_↔_, _⊎_, Iff·rfl, Iff·trans}
 use mathlib.Core.Bool.{Bool, true, false, not, _||_}
 use mathlib.Core.List.{List, [], _∷_, _++_, List·Memᴰ}
 use borrow.Author.Tests.{eqb-true, eq-eqb, ne-eqb}
 use lib.Dec.{T, leb, ltb, eqb}
 use lib.ListN.{length, drop, List·getD-append}
 use Rattle.model.specs.declared.Shelf.{Shelf}
+use Rattle.model.specs.declared.FunctionResult.the-variants.{UnknownSmpFunction, InvalidRequestFrameLength}
+use Rattle.model.specs.declared.Request.{Request}
 use Rattle.model.specs.declared.Answer.the-variants.{Response}
 use Rattle.model.specs.declared.House.the-variants.{SourceGroup, ShortBuffer, BadFrame}
 use Rattle.model.specs.Bytes.{byte, word}
@@ -22,13 +24,13 @@ use Rattle.model.specs.Writes.{effect}
 use Rattle.model.specs.Results.{resultCode, accepted, countRight, knownOperation, decide}
 use Rattle.model.specs.Shelf.{exists}
 use Rattle.model.specs.Sources.{supported}
-use Rattle.model.specs.Tests.{given, oneOf}
-use Rattle.model.proofs.Laws.Drawn.{Draws, firstFailure, Tell, draws-first, AllPass, passes-all}
+use Rattle.model.specs.Tests.{check, given, oneOf}
+use Rattle.model.proofs.Laws.Drawn.{Draws, firstFailure, Tell, nothing, tell, draws-first, AllPass, passes-all}
 use Rattle.model.proofs.Demands.Frames.{Framed, requestFunction, respond-framed}
 use Rattle.model.proofs.Laws.Handled.{verdict, granted, concluded, handled, concluded-all}
-use Rattle.model.proofs.Laws.Tests.{fails-iff, fails-under-iff, leb-iff, eqb-iff, oneOf-iff, by-each, check-map}
-use Rattle.model.proofs.Plain.Request.{RightLength, known-iff, asked-00, asked-01, asked-06, asked-11, asked-14}
-use Rattle.model.proofs.Plain.Request.{asked-91, asked-93, length-right, allowed-iff, none-unsupported}
+use Rattle.model.proofs.Laws.Tests.{fails-iff, fails-under-iff, leb-iff, eqb-iff, oneOf-iff, check-map}
+use Rattle.model.proofs.Plain.Request.{RightLength, known-iff, by-function}
+use Rattle.model.proofs.Plain.Request.{length-right, allowed-iff, none-unsupported}
 use Rattle.model.proofs.Plain.Results.{count-right, known-operation}
 
 -- ---- "In this order, first failure decides": the list, an entry to a code
@@ -67,59 +69,58 @@ failures s g frame =
 -- ---- the same as checks
 
 -- passes, if the function is none of these, or the test holds
-abbrev pub onlyFor : List ℕ → List ℕ → Bool → Bool
-onlyFor functions frame test = not (oneOf functions (functionOf frame)) || test
+abbrev pub onlyFor : List ℕ → ℕ → Bool → Bool
+onlyFor functions function test = not (oneOf functions function) || test
 
-abbrev pub checks : Shelf → ℕ → List ℕ → List (ℕ × Bool)
-checks s g frame =
-    (0x01, known (functionOf frame))
+-- of a frame, which has this function
+abbrev checksFor : Shelf → ℕ → List ℕ → ℕ → List (ℕ × Bool)
+checksFor s g frame f =
+    (0x01, known f)
     ∷ (0x03, lengthRight frame)
-    ∷ (0x04, onlyFor (0x91 ∷ 0x93 ∷ []) frame (countRight s (word frame 4)))
-    ∷ (0x10, onlyFor (0x11 ∷ 0x14 ∷ 0x91 ∷ 0x93 ∷ []) frame (exists s (byte frame 9)))
-    ∷ (0x16, onlyFor (0x11 ∷ 0x14 ∷ []) frame (reaches s g (byte frame 9)))
-    ∷ (0x20, onlyFor (0x91 ∷ 0x93 ∷ []) frame (reaches s g (byte frame 9)))
-    ∷ (0x13, onlyFor (0x91 ∷ []) frame (knownOperation (byte frame 10)))
-    ∷ (0x02, onlyFor (0x06 ∷ []) frame (leb (byte frame 2) 0x0F))
-    ∷ (0x02, onlyFor (0x93 ∷ []) frame (leb (byte frame 11) 4))
-    ∷ (0x17, onlyFor (0x93 ∷ []) frame (eqb (firstUnsupported frame (byte frame 11) 0) (byte frame 11)))
+    ∷ (0x04, onlyFor (0x91 ∷ 0x93 ∷ []) f (countRight s (word frame 4)))
+    ∷ (0x10, onlyFor (0x11 ∷ 0x14 ∷ 0x91 ∷ 0x93 ∷ []) f (exists s (byte frame 9)))
+    ∷ (0x16, onlyFor (0x11 ∷ 0x14 ∷ []) f (reaches s g (byte frame 9)))
+    ∷ (0x20, onlyFor (0x91 ∷ 0x93 ∷ []) f (reaches s g (byte frame 9)))
+    ∷ (0x13, onlyFor (0x91 ∷ []) f (knownOperation (byte frame 10)))
+    ∷ (0x02, onlyFor (0x06 ∷ []) f (leb (byte frame 2) 0x0F))
+    ∷ (0x02, onlyFor (0x93 ∷ []) f (leb (byte frame 11) 4))
+    ∷ (0x17, onlyFor (0x93 ∷ []) f (eqb (firstUnsupported frame (byte frame 11) 0) (byte frame 11)))
     ∷ []
 
+abbrev pub checks : Shelf → ℕ → List ℕ → List (ℕ × Bool)
+checks s g frame = checksFor s g frame (functionOf frame)
+
+-- by the seven functions; an unknown one fails the first check
 pub verdict-checks : (s : Shelf) (g : ℕ) (frame : List ℕ)
     → resultCode (verdict s g frame) ≡ firstFailure (checks s g frame)
 unfolding verdict decide known
 verdict-checks s g frame = go (known (functionOf frame)) refl
   where
+    -- a frame that has the function f, and asks this
+    Judged : ℕ → Request → Type 0
+    Judged f request =
+        resultCode
+        (check (known f) UnknownSmpFunction
+        (check (lengthRight frame) InvalidRequestFrameLength
+        (decide s g frame request)))
+        ≡ firstFailure (checksFor s g frame f)
+
     go : (b : Bool) → known (functionOf frame) ≡ b → resultCode (verdict s g frame) ≡ firstFailure (checks s g frame)
     go false e = rw e
     go true e =
-        by-each (functionOf frame) (0x00 ∷ 0x01 ∷ 0x06 ∷ 0x11 ∷ 0x14 ∷ 0x91 ∷ 0x93 ∷ [])
-        (known-iff (functionOf frame) .0 (rw e tt)) (
-          λ f. rw (asked-00 frame f, f) (simp (check-map resultCode)),
-          (
-            λ f. rw (asked-01 frame f, f) (simp (check-map resultCode)),
-            (
-              λ f. rw (asked-06 frame f, f) (simp (check-map resultCode)),
-              (
-                λ f. rw (asked-11 frame f, f) (simp (check-map resultCode)),
-                (
-                  λ f. rw (asked-14 frame f, f) (simp (check-map resultCode)),
-                  (
-                    λ f. rw (asked-91 frame f, f) (simp (check-map resultCode)),
-                    (
-                      λ f. rw (asked-93 frame f, f) (simp (check-map resultCode)),
-                      tt,
-                    ),
-                  ),
-                ),
-              ),
-            ),
-          ),
-        )
+        by-function frame Judged (rw e tt)
+        (simp (check-map resultCode))
+        (simp (check-map resultCode))
+        (simp (check-map resultCode))
+        (simp (check-map resultCode))
+        (simp (check-map resultCode))
+        (simp (check-map resultCode))
+        (simp (check-map resultCode))
 
 -- ---- each check passes exactly unless its failure is there
 
 only-for-iff : (functions frame : List ℕ) (test : Bool) {A : Type 0} → T test ↔ A
-    → (T (onlyFor functions frame test) → ⊥)
+    → (T (onlyFor functions (functionOf frame) test) → ⊥)
     ↔ (Of functions frame × (A → ⊥))
 only-for-iff functions frame test f =
     fails-under-iff (oneOf functions (functionOf frame)) test (oneOf-iff functions (functionOf frame)) f
@@ -135,47 +136,18 @@ sources-iff frame =
     ))
 
 checks-tell : (s : Shelf) (g : ℕ) (frame : List ℕ) → Tell (checks s g frame) (failures s g frame)
-checks-tell s g frame = (
-  refl,
-  fails-iff (known (functionOf frame)) (known-iff (functionOf frame)),
-  (
-    refl,
-    fails-iff (lengthRight frame) (length-right frame),
-    (
-      refl,
-      only-for-iff (0x91 ∷ 0x93 ∷ []) frame (countRight s (word frame 4)) (count-right s (word frame 4)),
-      (
-        refl,
-        only-for-iff (0x11 ∷ 0x14 ∷ 0x91 ∷ 0x93 ∷ []) frame (exists s (byte frame 9)) (λ t. t, λ t. t),
-        (
-          refl,
-          only-for-iff (0x11 ∷ 0x14 ∷ []) frame (reaches s g (byte frame 9)) (λ t. t, λ t. t),
-          (
-            refl,
-            only-for-iff (0x91 ∷ 0x93 ∷ []) frame (reaches s g (byte frame 9)) (λ t. t, λ t. t),
-            (
-              refl,
-              only-for-iff (0x91 ∷ []) frame (knownOperation (byte frame 10)) (known-operation (byte frame 10)),
-              (
-                refl,
-                only-for-iff (0x06 ∷ []) frame (leb (byte frame 2) 0x0F) (leb-iff (byte frame 2) 0x0F),
-                (
-                  refl,
-                  only-for-iff (0x93 ∷ []) frame (leb (byte frame 11) 4) (leb-iff (byte frame 11) 4),
-                  (
-                    refl,
-                    only-for-iff (0x93 ∷ []) frame (eqb (firstUnsupported frame (byte frame 11) 0) (byte frame 11)) (sources-iff frame),
-                    tt,
-                  ),
-                ),
-              ),
-            ),
-          ),
-        ),
-      ),
-    ),
-  ),
-)
+checks-tell s g frame =
+    tell (fails-iff (known (functionOf frame)) (known-iff (functionOf frame)))
+    (tell (fails-iff (lengthRight frame) (length-right frame))
+    (tell (only-for-iff (0x91 ∷ 0x93 ∷ []) frame (countRight s (word frame 4)) (count-right s (word frame 4)))
+    (tell (only-for-iff (0x11 ∷ 0x14 ∷ 0x91 ∷ 0x93 ∷ []) frame (exists s (byte frame 9)) Iff·rfl)
+    (tell (only-for-iff (0x11 ∷ 0x14 ∷ []) frame (reaches s g (byte frame 9)) Iff·rfl)
+    (tell (only-for-iff (0x91 ∷ 0x93 ∷ []) frame (reaches s g (byte frame 9)) Iff·rfl)
+    (tell (only-for-iff (0x91 ∷ []) frame (knownOperation (byte frame 10)) (known-operation (byte frame 10)))
+    (tell (only-for-iff (0x06 ∷ []) frame (leb (byte frame 2) 0x0F) (leb-iff (byte frame 2) 0x0F))
+    (tell (only-for-iff (0x93 ∷ []) frame (leb (byte frame 11) 4) (leb-iff (byte frame 11) 4))
+    (tell (only-for-iff (0x93 ∷ []) frame (eqb (firstUnsupported frame (byte frame 11) 0) (byte frame 11)) (sources-iff frame))
+    nothing)))))))))
 
 -- The result of a request is the code of the first failure that is there, and 00h exactly if none is.
 pub verdict-drawn : (s : Shelf) (g : ℕ) (frame : List ℕ) (code : ℕ)
@@ -189,9 +161,7 @@ pub verdict-accepted : (s : Shelf) (g : ℕ) (frame : List ℕ)
     → (resultCode (verdict s g frame) ≡ 0x00)
     ↔ AllPass (checks s g frame)
 verdict-accepted s g frame =
-    rw (verdict-checks s g frame)
-    (passes-all (checks s g frame)
-    (omega arith, (omega arith, (omega arith, (omega arith, (omega arith, (omega arith, (omega arith, (omega arith, (omega arith, (omega arith, tt)))))))))))
+    rw (verdict-checks s g frame) (passes-all (checks s g frame) tt)
 
 -- ---- On the lent buffer: a request that draws no house refusal
 

@@ -57,19 +57,11 @@ stranger-verdict : (s : Shelf) (g : ℕ) (frame : List ℕ) → Strange s g fram
 unfolding known
 stranger-verdict s g frame strange =
     let out : reaches s g (byte frame 9) ≡ false = is-false (reaches s g (byte frame 9)) (strange .unreached) in
-    by-each (functionOf frame) (0x11 ∷ 0x14 ∷ 0x91 ∷ 0x93 ∷ []) (strange .function) (
-      λ e. rw (verdict-checks s g frame, e, out),
-      (
-        λ e. rw (verdict-checks s g frame, e, out),
-        (
-          λ e. rw (verdict-checks s g frame, e, out),
-          (
-            λ e. rw (verdict-checks s g frame, e, out),
-            tt,
-          ),
-        ),
-      ),
-    )
+    by-each (resultCode (verdict s g frame) ≡ codeFor s frame) (functionOf frame) (0x11 ∷ 0x14 ∷ 0x91 ∷ 0x93 ∷ []) (strange .function)
+    (λ e. rw (verdict-checks s g frame, e, out))
+    (λ e. rw (verdict-checks s g frame, e, out))
+    (λ e. rw (verdict-checks s g frame, e, out))
+    (λ e. rw (verdict-checks s g frame, e, out))
 
 code-some : (function : ℕ) (a b c : Bool) → 1 ≤ strangerCode function a b c
 code-some function a b c =

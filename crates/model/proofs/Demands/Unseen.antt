@@ -26,7 +26,7 @@ use Rattle.model.proofs.Laws.PhyChanges.{Inner, event-inner, configured
 use Rattle.model.proofs.Laws.Steps.{SameZones}
 use Rattle.model.proofs.Laws.Tests.{is-false, by-each}
 use Rattle.model.proofs.Plain.CrossedOut.{CrossedRequest, crossed-request-iff, crossed-event-iff}
-use Rattle.model.proofs.Plain.Request.{asked-11, asked-14, asked-91, asked-93}
+use Rattle.model.proofs.Plain.Request.{asked-91, asked-93}
 
 -- ---- a request
 
@@ -47,10 +47,13 @@ module _ (g : ℕ) (s : Shelf) where
   -- the effect of a crossed-out request, by its function
   unseen-effect : (h : ℕ) (frame : List ℕ) → CrossedRequest g s h frame
       → looks g (effect s frame (asked frame)) ≡ looks g s
-  unfolding effect
+  unfolding effect asked
   unseen-effect h frame crossed =
-      by-each (functionOf frame) (0x11 ∷ 0x14 ∷ 0x91 ∷ 0x93 ∷ []) (crossed .about .0)
-      (λ e. rw (asked-11 frame e), (λ e. rw (asked-14 frame e), (control, (configure, tt))))
+      by-each (looks g (effect s frame (asked frame)) ≡ looks g s) (functionOf frame) (0x11 ∷ 0x14 ∷ 0x91 ∷ 0x93 ∷ []) (crossed .about .0)
+      (λ e. rw e)
+      (λ e. rw e)
+      control
+      configure
     where
       out : reaches s g (byte frame 9) ≡ false
       out = is-false (reaches s g (byte frame 9)) (crossed .unreached)

@@ -21,10 +21,9 @@ use Rattle.model.proofs.Demands.Results.{Of, SourcesAllowed, NotRefused
 use Rattle.model.proofs.Demands.Results.{failed-result, granted-result}
 use Rattle.model.proofs.Laws.Drawn.{AllPass}
 use Rattle.model.proofs.Laws.Handled.{handled-all, accepted-decided}
-use Rattle.model.proofs.Laws.Tests.{leb-iff, by-each}
+use Rattle.model.proofs.Laws.Tests.{leb-iff}
 use Rattle.model.proofs.Plain.Reach.{exists-iff}
-use Rattle.model.proofs.Plain.Request.{known-iff, asked-00, asked-01, asked-06, asked-11, asked-14, asked-91}
-use Rattle.model.proofs.Plain.Request.{asked-93}
+use Rattle.model.proofs.Plain.Request.{asked-91, asked-93, by-function}
 use Rattle.model.proofs.Plain.Request.{right-length-91, right-length-93}
 use Rattle.model.proofs.Plain.Results.{count-right, known-operation}
 
@@ -170,26 +169,13 @@ unfolding served effect
 read-stays s g frame out read =
     handled-all (λ h. h .shelf ≡ s) s g frame (length out) (λ house. refl) refl
     (λ e.
-    by-each (functionOf frame) (0x00 ∷ 0x01 ∷ 0x06 ∷ 0x11 ∷ 0x14 ∷ 0x91 ∷ 0x93 ∷ [])
-    (known-iff (functionOf frame) .0 (rw (accepted-decided s g frame e .0) tt)) (
-      λ f. rw (asked-00 frame f),
-      (
-        λ f. rw (asked-01 frame f),
-        (
-          λ f. rw (asked-06 frame f),
-          (
-            λ f. rw (asked-11 frame f),
-            (
-              λ f. rw (asked-14 frame f),
-              (
-                λ f. absurd (read (List·Memᴰ·head f)),
-                (
-                  λ f. absurd (read (List·Memᴰ·tail (List·Memᴰ·head f))),
-                  tt,
-                ),
-              ),
-            ),
-          ),
-        ),
-      ),
-    ))
+    by-function frame (λ function request. (List·Memᴰ function (0x91 ∷ 0x93 ∷ []) → ⊥) → effect s frame request ≡ s)
+    (rw (accepted-decided s g frame e .0) tt)
+    (λ no-write. refl)
+    (λ no-write. refl)
+    (λ no-write. refl)
+    (λ no-write. refl)
+    (λ no-write. refl)
+    (λ no-write. absurd (no-write (List·Memᴰ·head refl)))
+    (λ no-write. absurd (no-write (List·Memᴰ·tail (List·Memᴰ·head refl))))
+    read)

@@ -117,14 +117,18 @@ oneOf-iff [] n = (λ t. absurd t, λ m. absurd (List·Memᴰ·not-nil m))
 oneOf-iff (x ∷ xs) n =
     Iff·trans (either-iff (eqb n x) (oneOf xs n) (eqb-iff n x) (oneOf-iff xs n)) (Iff·symm (member-iff n x xs))
 
--- what follows from each of a list follows from being one of them
+-- what follows from being each of a list follows from being one of them
 abbrev pub Each : ℕ → List ℕ → Type 0 → Type 0
-Each n [] P = Unit {0}
-Each n (x ∷ xs) P = (n ≡ x → P) × Each n xs P
+Each n [] P = P
+Each n (x ∷ xs) P = (n ≡ x → P) → Each n xs P
 
-pub by-each : (n : ℕ) (xs : List ℕ) {P : Type 0} → List·Memᴰ n xs → Each n xs P → P
-by-each n [] m each = absurd (List·Memᴰ·not-nil m)
-by-each n (x ∷ xs) m each = ⊎-elim (each .0) (λ m′. by-each n xs m′ (each .1)) (member-iff n x xs .0 m)
+settled : (P : Type 0) (n : ℕ) (xs : List ℕ) → P → Each n xs P
+settled P n [] p = p
+settled P n (x ∷ xs) p = λ f. settled P n xs p
+
+pub by-each : (P : Type 0) (n : ℕ) (xs : List ℕ) → List·Memᴰ n xs → Each n xs P
+by-each P n [] m = absurd (List·Memᴰ·not-nil m)
+by-each P n (x ∷ xs) m = λ f. ⊎-elim (λ e. settled P n xs (f e)) (λ m′. by-each P n xs m′) (member-iff n x xs .0 m)
 
 -- ---- all of 0 to n - 1
 

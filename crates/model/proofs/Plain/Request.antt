@@ -9,6 +9,7 @@ use mathlib.Core.Bool.{Bool, true, false, not, cond, _&&_, _||_, or-assoc, or-fa
 use mathlib.Core.List.{List, [], _∷_, List·Memᴰ}
 use lib.Dec.{T, ltb, eqb}
 use lib.ListN.{length}
+use Rattle.model.specs.declared.Request.{Request}
 use Rattle.model.specs.declared.Request.the-variants.{ReportGeneral, ReportManufacturer, ReportBroadcast}
 use Rattle.model.specs.declared.Request.the-variants.{ReportPhyErrorLog, ReportPhyEvent, PhyControl}
 use Rattle.model.specs.declared.Request.the-variants.{ConfigurePhyEvent}
@@ -18,7 +19,7 @@ use Rattle.model.specs.Request.{firstUnsupported}
 use Rattle.model.specs.Sources.{supported}
 use Rattle.model.specs.Tests.{oneOf}
 use Rattle.model.specs.Zone.{bit}
-use Rattle.model.proofs.Laws.Tests.{denied-iff, both-iff, all-three-iff, either-iff, ltb-iff, eqb-iff, oneOf-iff}
+use Rattle.model.proofs.Laws.Tests.{denied-iff, both-iff, all-three-iff, either-iff, ltb-iff, eqb-iff, oneOf-iff, by-each}
 
 -- H6: under four bytes, or the first is not 40h
 pub bad-frame : (frame : List ℕ) → T (badFrame frame) ↔ ((length frame < 4) ⊎ (byte frame 0 ≡ 0x40 → ⊥))
@@ -109,35 +110,36 @@ module _ (frame : List ℕ) where
 
 -- ---- what is asked, by the function
 
-module _ (frame : List ℕ) where
-  pub asked-00 : functionOf frame ≡ 0x00 → asked frame ≡ ReportGeneral
-  unfolding asked
-  asked-00 e = rw e
+pub asked-91 : (frame : List ℕ) → functionOf frame ≡ 0x91
+    → asked frame ≡ PhyControl (word frame 4) (byte frame 9) (byte frame 10)
+unfolding asked
+asked-91 frame e = rw e
 
-  pub asked-01 : functionOf frame ≡ 0x01 → asked frame ≡ ReportManufacturer
-  unfolding asked
-  asked-01 e = rw e
+pub asked-93 : (frame : List ℕ) → functionOf frame ≡ 0x93
+    → asked frame ≡ ConfigurePhyEvent (word frame 4) (bit (byte frame 6) 0) (byte frame 9) (byte frame 11)
+unfolding asked
+asked-93 frame e = rw e
 
-  pub asked-06 : functionOf frame ≡ 0x06 → asked frame ≡ ReportBroadcast (byte frame 2)
-  unfolding asked
-  asked-06 e = rw e
-
-  pub asked-11 : functionOf frame ≡ 0x11 → asked frame ≡ ReportPhyErrorLog (byte frame 9)
-  unfolding asked
-  asked-11 e = rw e
-
-  pub asked-14 : functionOf frame ≡ 0x14 → asked frame ≡ ReportPhyEvent (byte frame 9)
-  unfolding asked
-  asked-14 e = rw e
-
-  pub asked-91 : functionOf frame ≡ 0x91 → asked frame ≡ PhyControl (word frame 4) (byte frame 9) (byte frame 10)
-  unfolding asked
-  asked-91 e = rw e
-
-  pub asked-93 : functionOf frame ≡ 0x93
-      → asked frame ≡ ConfigurePhyEvent (word frame 4) (bit (byte frame 6) 0) (byte frame 9) (byte frame 11)
-  unfolding asked
-  asked-93 e = rw e
+-- what holds of each of the seven functions with what it asks holds of every frame of a known function
+pub by-function : (frame : List ℕ) (P : ℕ → Request → Type 0) → T (known (functionOf frame))
+    → P 0x00 ReportGeneral
+    → P 0x01 ReportManufacturer
+    → P 0x06 (ReportBroadcast (byte frame 2))
+    → P 0x11 (ReportPhyErrorLog (byte frame 9))
+    → P 0x14 (ReportPhyEvent (byte frame 9))
+    → P 0x91 (PhyControl (word frame 4) (byte frame 9) (byte frame 10))
+    → P 0x93 (ConfigurePhyEvent (word frame 4) (bit (byte frame 6) 0) (byte frame 9) (byte frame 11))
+    → P (functionOf frame) (asked frame)
+unfolding asked
+by-function frame P t p00 p01 p06 p11 p14 p91 p93 =
+    by-each (P (functionOf frame) (asked frame)) (functionOf frame) (0x00 ∷ 0x01 ∷ 0x06 ∷ 0x11 ∷ 0x14 ∷ 0x91 ∷ 0x93 ∷ []) (known-iff (functionOf frame) .0 t)
+    (λ e. rw e p00)
+    (λ e. rw e p01)
+    (λ e. rw e p06)
+    (λ e. rw e p11)
+    (λ e. rw e p14)
+    (λ e. rw e p91)
+    (λ e. rw e p93)
 
 -- ---- the descriptors of a 93h
 

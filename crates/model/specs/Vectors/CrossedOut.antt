@@ -90,3 +90,24 @@ stay =
     ∷ (8, QueryReach 9)
     ∷ (8, QueryReach 8)
     ∷ []
+
+-- a run, and what remains of it for group 8: what is crossed out is gone, what stays stands in its order
+unfoldable pub whole : List Operation
+whole =
+    Event 2 0x01 1
+    ∷ sent 9 (control 0x09 0x00 2 0x01)
+    ∷ sent 9 (readPhy 0x14 0x02 2)
+    ∷ LinkChange 2
+    ∷ sent 8 (readPhy 0x14 0x02 2)
+    ∷ Event 2 0x2D 10
+    ∷ Event 0 0x2D 10
+    ∷ sent 9 (configure 0x02 0x00 0x01 2 0 [])
+    ∷ []
+
+unfoldable pub rest : List Operation
+rest =
+    sent 9 (control 0x09 0x00 2 0x01)
+    ∷ LinkChange 2
+    ∷ sent 8 (readPhy 0x14 0x02 2)
+    ∷ Event 0 0x2D 10
+    ∷ []
