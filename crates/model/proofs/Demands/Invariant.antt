@@ -12,18 +12,6 @@ use Rattle.model.specs.declared.Monitor.{Monitor}
 use Rattle.model.specs.declared.Phy.{Phy}
 use Rattle.model.specs.declared.Shelf.{Shelf}
 use Rattle.model.specs.declared.Taken.the-variants.{Done}
-use Rattle.model.specs.Bytes.{byte, dword}
-use Rattle.model.specs.Counting.{addWrapping, addSaturating, counted, crosses, originateCrossings, addError}
-use Rattle.model.specs.Counting.{eventOn, changeOn}
-use Rattle.model.specs.Reply.{errorAt, monitorAt}
-use Rattle.model.specs.Runs.{Operation, Ask, Event, LinkChange, ReducedFunctionality, Ses, QueryReach, next, after}
-use Rattle.model.specs.Shelf.{phyAt, phyWith, freshMonitor, freshPhy}
-use Rattle.model.specs.Shelf.{startGroup, freshShelf, startTaken, start}
-use Rattle.model.specs.Sources.{peak}
-use Rattle.model.specs.Tests.{within}
-use Rattle.model.specs.Writes.{withoutErrors, controlled, setMonitor, setMonitors, setOn, clearMonitor}
-use Rattle.model.specs.Writes.{anyPeak, clearOn, configured}
-use Rattle.model.specs.Zone.{row}
 use Rattle.model.proofs.Laws.Join.{join-length}
 use Rattle.model.proofs.Laws.PhyChanges.{moved}
 use Rattle.model.proofs.Laws.Places.{All, Each, change-at, map-at, replicate-each}
@@ -34,6 +22,17 @@ use Rattle.model.proofs.Plain.Shelf.{SameFrame}
 use Rattle.model.proofs.Plain.Start.{Startable, start-done, fresh-phys}
 use Rattle.model.proofs.Plain.Writes.{set-length}
 use Rattle.model.proofs.Plain.Zone.{LegalTable}
+use Rattle.model.specs.Bytes.{byte, dword}
+use Rattle.model.specs.Counting.{addWrapping, addSaturating, counted, crosses, originateCrossings, addError, eventOn}
+use Rattle.model.specs.Counting.{changeOn}
+use Rattle.model.specs.Reply.{errorAt, monitorAt}
+use Rattle.model.specs.Runs.{Operation, Ask, Event, LinkChange, ReducedFunctionality, Ses, QueryReach, next, after}
+use Rattle.model.specs.Shelf.{phyAt, phyWith, freshMonitor, freshPhy, startGroup, freshShelf, startTaken, start}
+use Rattle.model.specs.Sources.{peak}
+use Rattle.model.specs.Tests.{within}
+use Rattle.model.specs.Writes.{withoutErrors, controlled, setMonitor, setMonitors, setOn, clearMonitor, anyPeak}
+use Rattle.model.specs.Writes.{clearOn, configured}
+use Rattle.model.specs.Zone.{row}
 
 -- ---- what it says
 

@@ -12,8 +12,8 @@ use Rattle.model.specs.declared.House.{House}
 use Rattle.model.specs.declared.House.the-variants.{SourceGroup, ShortBuffer, BadFrame}
 use Rattle.model.specs.declared.Judged.the-variants.{Asked, NoFrame, Fails}
 use Rattle.model.specs.declared.Shelf.{Shelf}
-use Rattle.model.specs.Request.{badFrame, functionOf, known, lengthRight, asked, judge}
 use Rattle.model.specs.Reply.{failed, respond}
+use Rattle.model.specs.Request.{badFrame, functionOf, known, lengthRight, asked, judge}
 use Rattle.model.specs.Results.{resultCode, accepted, decide}
 use Rattle.model.specs.Server.{Handled, Sends, refuse, fail, conclude, handleJudged, handle}
 use Rattle.model.specs.Tests.{check, given}
