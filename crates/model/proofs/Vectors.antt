@@ -1,8 +1,6 @@
 -- The further cases hold of the definitions too, by computation.
 use mathlib.Core.Path.{_≡_, refl}
 use mathlib.Core.Bool.{true, false}
-use Rattle.model.proofs.Computes.{computes}
-use Rattle.model.proofs.Holds.{Holds, Fate}
 use Rattle.model.specs.CrossedOut.{remains}
 use Rattle.model.specs.Runs.{answers}
 use Rattle.model.specs.ShelfW.{shelfW}
@@ -15,6 +13,8 @@ use Rattle.model.specs.Vectors.Results.{results}
 use Rattle.model.specs.Vectors.Starts.{starts}
 use Rattle.model.specs.Vectors.Stays.{stays}
 use Rattle.model.specs.Vectors.Told.{mixed, to8, to32}
+use Rattle.model.proofs.Computes.{computes}
+use Rattle.model.proofs.Holds.{Holds, Fate}
 
 pub easily-wrong-hold : Holds easilyWrong
 unfolding easilyWrong computes

@@ -7,16 +7,16 @@ use Rattle.model.specs.declared.House.the-variants.{NoSuchPhy}
 use Rattle.model.specs.declared.Phy.{Phy}
 use Rattle.model.specs.declared.Shelf.{Shelf}
 use Rattle.model.specs.declared.Taken.the-variants.{Done, NotDone}
-use Rattle.model.proofs.Laws.Checks.{every-outcome}
-use Rattle.model.proofs.Laws.PhyChanges.{moved, Changes, event-changes, change-changes, configured-changes}
-use Rattle.model.proofs.Laws.PhyChanges.{controlled-changes}
-use Rattle.model.proofs.Laws.Steps.{Step, Stays, Moves, Notes, KeptBy, next-step}
-use Rattle.model.proofs.Plain.Shelf.{put-same, put-other}
 use Rattle.model.specs.Counting.{originate, changeOn}
 use Rattle.model.specs.Reports.{eventTaken, event, linkChange, reducedFunctionality, sesNotice}
 use Rattle.model.specs.Runs.{Operation, Ask, Event, LinkChange, ReducedFunctionality, Ses, QueryReach, next}
 use Rattle.model.specs.Shelf.{exists, phyAt, put, outcome}
 use Rattle.model.specs.Tests.{given}
+use Rattle.model.proofs.Laws.Checks.{every-outcome}
+use Rattle.model.proofs.Laws.PhyChanges.{moved, Changes, event-changes, change-changes, configured-changes}
+use Rattle.model.proofs.Laws.PhyChanges.{controlled-changes}
+use Rattle.model.proofs.Laws.Steps.{Step, Stays, Moves, Notes, KeptBy, next-step}
+use Rattle.model.proofs.Plain.Shelf.{put-same, put-other}
 
 -- ---- Every operation: the change count and the Change count of one phy are originated together, or neither is; and no other phy's is.
 

@@ -16,9 +16,6 @@ use Rattle.model.specs.declared.Monitor.{Monitor}
 use Rattle.model.specs.declared.Phy.{Phy}
 use Rattle.model.specs.declared.Request.the-variants.{PhyControl, ConfigurePhyEvent}
 use Rattle.model.specs.declared.Shelf.{Shelf}
-use Rattle.model.proofs.Laws.Tests.{and-iff, not-both-iff, both-iff, cond-iff, eqb-iff, by-each}
-use Rattle.model.proofs.Plain.Shelf.{OnlyPhy, put-only}
-use Rattle.model.proofs.Plain.Writes.{set-length, HasPeak, anyPeak-iff}
 use Rattle.model.specs.Bytes.{byte}
 use Rattle.model.specs.Counting.{originate, withValue, changeOn}
 use Rattle.model.specs.Reply.{monitorAt}
@@ -28,6 +25,9 @@ use Rattle.model.specs.Sources.{peak}
 use Rattle.model.specs.Writes.{controlled, controlChanges, setMonitor, setMonitors, withMonitors, setOn, clearMonitor}
 use Rattle.model.specs.Writes.{anyPeak, clearOn, configured, effect}
 use Rattle.model.specs.Zone.{bit}
+use Rattle.model.proofs.Laws.Tests.{and-iff, not-both-iff, both-iff, cond-iff, eqb-iff, by-each}
+use Rattle.model.proofs.Plain.Shelf.{OnlyPhy, put-only}
+use Rattle.model.proofs.Plain.Writes.{set-length, HasPeak, anyPeak-iff}
 
 -- Two shelves that differ from s in phy p and in the change count at most, and agree in these, are one.
 same-shelf : {s t u : Shelf} {p : ℕ} → OnlyPhy s p t → OnlyPhy s p u

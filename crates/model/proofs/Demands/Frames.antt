@@ -20,13 +20,6 @@ use Rattle.model.specs.declared.Request.{Request}
 use Rattle.model.specs.declared.Request.the-variants.{ReportGeneral, ReportManufacturer, ReportBroadcast}
 use Rattle.model.specs.declared.Request.the-variants.{ReportPhyErrorLog, ReportPhyEvent, PhyControl, ConfigurePhyEvent}
 use Rattle.model.specs.declared.Shelf.{Shelf}
-use Rattle.model.proofs.Demands.Invariant.{BytesFit, Fits}
-use Rattle.model.proofs.Laws.Handled.{verdict, sent-all, accepted-decided}
-use Rattle.model.proofs.Laws.Join.{join-few}
-use Rattle.model.proofs.Laws.Places.{All, all-each, each-all, cut-each, sets-each, sets-before}
-use Rattle.model.proofs.Laws.Tests.{cond-both}
-use Rattle.model.proofs.Plain.Reply.{broadcast-bytes-length, listed-iff, kept-small}
-use Rattle.model.proofs.Plain.Request.{by-function}
 use Rattle.model.specs.Bytes.{byte, one}
 use Rattle.model.specs.Reach.{reaches}
 use Rattle.model.specs.Reply.{failed, response, changeCount, reportGeneral, reportManufacturer, reportPhyErrorLog}
@@ -36,6 +29,13 @@ use Rattle.model.specs.Request.{functionOf, known, asked}
 use Rattle.model.specs.Results.{resultCode}
 use Rattle.model.specs.Server.{Sends, handle}
 use Rattle.model.specs.Shelf.{phyNumber, noPhy, phyAt}
+use Rattle.model.proofs.Demands.Invariant.{BytesFit, Fits}
+use Rattle.model.proofs.Laws.Handled.{verdict, sent-all, accepted-decided}
+use Rattle.model.proofs.Laws.Join.{join-few}
+use Rattle.model.proofs.Laws.Places.{All, all-each, each-all, cut-each, sets-each, sets-before}
+use Rattle.model.proofs.Laws.Tests.{cond-both}
+use Rattle.model.proofs.Plain.Reply.{broadcast-bytes-length, listed-iff, kept-small}
+use Rattle.model.proofs.Plain.Request.{by-function}
 
 -- "Response byte 0 is 41h, byte 1 the function, byte 2 the result, byte 3 the number of dwords that follow."
 pub record Framed (function result : ℕ) (bytes : List ℕ) : Type 0 where

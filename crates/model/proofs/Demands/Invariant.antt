@@ -12,16 +12,6 @@ use Rattle.model.specs.declared.Monitor.{Monitor}
 use Rattle.model.specs.declared.Phy.{Phy}
 use Rattle.model.specs.declared.Shelf.{Shelf}
 use Rattle.model.specs.declared.Taken.the-variants.{Done}
-use Rattle.model.proofs.Laws.Join.{join-length}
-use Rattle.model.proofs.Laws.PhyChanges.{moved}
-use Rattle.model.proofs.Laws.Places.{All, Each, change-at, map-at, replicate-each}
-use Rattle.model.proofs.Laws.Steps.{Step, KeptBy, next-step, step-frame, step-phys, Counts, step-counts}
-use Rattle.model.proofs.Laws.Tests.{cond-by, cond-both}
-use Rattle.model.proofs.Plain.Counting.{originate-range}
-use Rattle.model.proofs.Plain.Shelf.{SameFrame}
-use Rattle.model.proofs.Plain.Start.{Startable, start-done, fresh-phys}
-use Rattle.model.proofs.Plain.Writes.{set-length}
-use Rattle.model.proofs.Plain.Zone.{LegalTable}
 use Rattle.model.specs.Bytes.{byte, dword}
 use Rattle.model.specs.Counting.{addWrapping, addSaturating, counted, crosses, originateCrossings, addError, eventOn}
 use Rattle.model.specs.Counting.{changeOn}
@@ -33,6 +23,16 @@ use Rattle.model.specs.Tests.{within}
 use Rattle.model.specs.Writes.{withoutErrors, controlled, setMonitor, setMonitors, setOn, clearMonitor, anyPeak}
 use Rattle.model.specs.Writes.{clearOn, configured}
 use Rattle.model.specs.Zone.{row}
+use Rattle.model.proofs.Laws.Join.{join-length}
+use Rattle.model.proofs.Laws.PhyChanges.{moved}
+use Rattle.model.proofs.Laws.Places.{All, Each, change-at, map-at, replicate-each}
+use Rattle.model.proofs.Laws.Steps.{Step, KeptBy, next-step, step-frame, step-phys, Counts, step-counts}
+use Rattle.model.proofs.Laws.Tests.{cond-by, cond-both}
+use Rattle.model.proofs.Plain.Counting.{originate-range}
+use Rattle.model.proofs.Plain.Shelf.{SameFrame}
+use Rattle.model.proofs.Plain.Start.{Startable, start-done, fresh-phys}
+use Rattle.model.proofs.Plain.Writes.{set-length}
+use Rattle.model.proofs.Plain.Zone.{LegalTable}
 
 -- ---- what it says
 

@@ -8,13 +8,13 @@ use mathlib.Core.List.{List, [], _∷_, _++_}
 use lib.Dec.{T}
 use Rattle.model.specs.declared.Shelf.{Shelf}
 use Rattle.model.specs.declared.Taken.the-variants.{Done}
+use Rattle.model.specs.CrossedOut.{crossedOut, remains}
+use Rattle.model.specs.Runs.{Operation, Told, next, told, answers}
+use Rattle.model.specs.Shelf.{start}
 use Rattle.model.proofs.Demands.Looks.{looks}
 use Rattle.model.proofs.Demands.Steps.{looks-next, looks-told}
 use Rattle.model.proofs.Demands.Unseen.{crossed-unseen, crossed-untold, crossed-zones}
 use Rattle.model.proofs.Laws.Steps.{SameZones, next-zones, zones-same, zones-on}
-use Rattle.model.specs.CrossedOut.{crossedOut, remains}
-use Rattle.model.specs.Runs.{Operation, Told, next, told, answers}
-use Rattle.model.specs.Shelf.{start}
 
 -- ---- Two shelves that look the same to g give it the same answers, whatever happens.
 

@@ -9,11 +9,11 @@ use lib.ListN.{length, getD, set, length-map, List·getD-map}
 use lib.Seq.{set-getD, ext-getD}
 use Rattle.model.specs.declared.Phy.{Phy}
 use Rattle.model.specs.declared.Shelf.{Shelf}
-use Rattle.model.proofs.Laws.PhyChanges.{Inner}
-use Rattle.model.proofs.Laws.Tests.{is-true}
 use Rattle.model.specs.Reach.{reaches}
 use Rattle.model.specs.Shelf.{noPhy, phyAt, shelfWith, put}
 use Rattle.model.specs.Zone.{row, rowReaches}
+use Rattle.model.proofs.Laws.PhyChanges.{Inner}
+use Rattle.model.proofs.Laws.Tests.{is-true}
 
 -- A phy as a row sees it: whole where the row reaches it. Where it does not, its numbers are not seen; its group and whether it is
 -- enabled stay, since a disable moves the change count, which all may read, only if the phy was enabled.

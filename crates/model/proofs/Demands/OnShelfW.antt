@@ -6,8 +6,6 @@ use mathlib.Core.Path.{_≡_, refl, ap}
 use mathlib.Core.List.{List, [], _∷_}
 use lib.ListN.{set}
 use Rattle.model.specs.declared.Shelf.{Shelf}
-use Rattle.model.proofs.Computes.{computes}
-use Rattle.model.proofs.Demands.Looks.{looks}
 use Rattle.model.specs.Bytes.{word}
 use Rattle.model.specs.Cases.{sent}
 use Rattle.model.specs.Hex.{hex}
@@ -17,6 +15,8 @@ use Rattle.model.specs.Shelf.{monitor, phyAt, put}
 use Rattle.model.specs.ShelfW.{shelfW}
 use Rattle.model.specs.Vectors.Tools.{control}
 use Rattle.model.specs.Writes.{withMonitors}
+use Rattle.model.proofs.Computes.{computes}
+use Rattle.model.proofs.Demands.Looks.{looks}
 
 -- ---- What looks the same, and what doesn't
 

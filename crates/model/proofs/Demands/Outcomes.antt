@@ -18,12 +18,6 @@ use Rattle.model.specs.declared.Outcome.{Outcome}
 use Rattle.model.specs.declared.Shelf.{Shelf}
 use Rattle.model.specs.declared.Taken.{Taken}
 use Rattle.model.specs.declared.Taken.the-variants.{Done, NotDone}
-use Rattle.model.proofs.Demands.Refusals.{startRefusals, requestRefusals, phyRefusal, eventRefusals, start-gives}
-use Rattle.model.proofs.Demands.Refusals.{request-gives, event-gives, link-change-gives, request-refusal}
-use Rattle.model.proofs.Demands.Results.{failures, NotRefused, result-drawn, Failed, failed-result, Granted}
-use Rattle.model.proofs.Demands.Results.{granted-result}
-use Rattle.model.proofs.Laws.Drawn.{Draws}
-use Rattle.model.proofs.Laws.Lowest.{Applies, Lowest, Gives}
 use Rattle.model.specs.Bytes.{byte}
 use Rattle.model.specs.Counting.{originate, eventOn, changeOn}
 use Rattle.model.specs.House.{houseNumber, takenNumber, answerNumber}
@@ -31,6 +25,12 @@ use Rattle.model.specs.Reports.{eventTaken, event, linkChange}
 use Rattle.model.specs.Server.{served, lentAfter}
 use Rattle.model.specs.Shelf.{exists, phyAt, put, freshShelf, noShelf, outcome, startTaken, start}
 use Rattle.model.specs.Tests.{given}
+use Rattle.model.proofs.Demands.Refusals.{startRefusals, requestRefusals, phyRefusal, eventRefusals, start-gives}
+use Rattle.model.proofs.Demands.Refusals.{request-gives, event-gives, link-change-gives, request-refusal}
+use Rattle.model.proofs.Demands.Results.{failures, NotRefused, result-drawn, Failed, failed-result, Granted}
+use Rattle.model.proofs.Demands.Results.{granted-result}
+use Rattle.model.proofs.Laws.Drawn.{Draws}
+use Rattle.model.proofs.Laws.Lowest.{Applies, Lowest, Gives}
 
 -- ---- A request is refused, or it fails, or it is accepted.
 

@@ -11,14 +11,6 @@ use lib.ListN.{length, getD}
 use Rattle.model.specs.declared.House.the-variants.{NoSuchPhy}
 use Rattle.model.specs.declared.Shelf.{Shelf}
 use Rattle.model.specs.declared.Taken.the-variants.{Done, NotDone}
-use Rattle.model.proofs.Laws.Checks.{outcome-taken, outcome-stays}
-use Rattle.model.proofs.Laws.Handled.{concluded, handled, concluded-all, handled-all}
-use Rattle.model.proofs.Laws.Lowest.{Gives, firstGiven, row-gives}
-use Rattle.model.proofs.Laws.Tests.{check-map, denied-iff, either-iff, above-iff, ltb-iff, eqb-iff, within-iff}
-use Rattle.model.proofs.Laws.Tests.{some-below-iff}
-use Rattle.model.proofs.Plain.Reports.{amount-iff}
-use Rattle.model.proofs.Plain.Request.{bad-frame}
-use Rattle.model.proofs.Plain.Zone.{LegalTable, legal-table}
 use Rattle.model.specs.Bytes.{byte}
 use Rattle.model.specs.House.{takenNumber, answerNumber, queryNumber}
 use Rattle.model.specs.Reach.{reachQuery}
@@ -29,6 +21,14 @@ use Rattle.model.specs.Shelf.{exists, noShelf, startTaken, start}
 use Rattle.model.specs.Sources.{supported}
 use Rattle.model.specs.Tests.{given, within, allBelow}
 use Rattle.model.specs.Zone.{zoneGroup, legalTable}
+use Rattle.model.proofs.Laws.Checks.{outcome-taken, outcome-stays}
+use Rattle.model.proofs.Laws.Handled.{concluded, handled, concluded-all, handled-all}
+use Rattle.model.proofs.Laws.Lowest.{Gives, firstGiven, row-gives}
+use Rattle.model.proofs.Laws.Tests.{check-map, denied-iff, either-iff, above-iff, ltb-iff, eqb-iff, within-iff}
+use Rattle.model.proofs.Laws.Tests.{some-below-iff}
+use Rattle.model.proofs.Plain.Reports.{amount-iff}
+use Rattle.model.proofs.Plain.Request.{bad-frame}
+use Rattle.model.proofs.Plain.Zone.{LegalTable, legal-table}
 
 -- ---- "Given exactly when": the table, in three parts and a line to a line
 

@@ -14,13 +14,6 @@ use Rattle.model.specs.declared.FunctionResult.the-variants.{UnknownSmpF
 use Rattle.model.specs.declared.House.the-variants.{SourceGroup, ShortBuffer, BadFrame}
 use Rattle.model.specs.declared.Request.{Request}
 use Rattle.model.specs.declared.Shelf.{Shelf}
-use Rattle.model.proofs.Demands.Frames.{Framed, requestFunction, respond-framed}
-use Rattle.model.proofs.Laws.Drawn.{Draws, firstFailure, Tell, nothing, tell, draws-first, AllPass, passes-all}
-use Rattle.model.proofs.Laws.Handled.{verdict, granted, concluded, handled, concluded-all}
-use Rattle.model.proofs.Laws.Tests.{fails-iff, fails-under-iff, leb-iff, eqb-iff, oneOf-iff, check-map}
-use Rattle.model.proofs.Plain.Request.{RightLength, known-iff, by-function, length-right, allowed-iff}
-use Rattle.model.proofs.Plain.Request.{none-unsupported}
-use Rattle.model.proofs.Plain.Results.{count-right, known-operation}
 use Rattle.model.specs.Bytes.{byte, word}
 use Rattle.model.specs.House.{answerNumber}
 use Rattle.model.specs.Reach.{reaches}
@@ -32,6 +25,13 @@ use Rattle.model.specs.Shelf.{exists}
 use Rattle.model.specs.Sources.{supported}
 use Rattle.model.specs.Tests.{check, given, oneOf}
 use Rattle.model.specs.Writes.{effect}
+use Rattle.model.proofs.Demands.Frames.{Framed, requestFunction, respond-framed}
+use Rattle.model.proofs.Laws.Drawn.{Draws, firstFailure, Tell, nothing, tell, draws-first, AllPass, passes-all}
+use Rattle.model.proofs.Laws.Handled.{verdict, granted, concluded, handled, concluded-all}
+use Rattle.model.proofs.Laws.Tests.{fails-iff, fails-under-iff, leb-iff, eqb-iff, oneOf-iff, check-map}
+use Rattle.model.proofs.Plain.Request.{RightLength, known-iff, by-function, length-right, allowed-iff}
+use Rattle.model.proofs.Plain.Request.{none-unsupported}
+use Rattle.model.proofs.Plain.Results.{count-right, known-operation}
 
 -- ---- "In this order, first failure decides": the list, an entry to a code
 

@@ -14,10 +14,6 @@ use Rattle.model.specs.declared.Request.the-variants.{ReportPhyErrorLog,
 use Rattle.model.specs.declared.Shelf.{Shelf}
 use Rattle.model.specs.declared.Taken.{Taken}
 use Rattle.model.specs.declared.Taken.the-variants.{Done, NotDone}
-use Rattle.model.proofs.Demands.Looks.{looks, looks-reaches, looks-reached, looks-twice, looks-change}
-use Rattle.model.proofs.Laws.Checks.{both-outcomes, read-reached}
-use Rattle.model.proofs.Laws.Handled.{verdict, both-handled, both-concluded, accepted-decided}
-use Rattle.model.proofs.Laws.PhyChanges.{enablesBy, event-inner, change-inner, configured-inner, controlled-inner}
 use Rattle.model.specs.Counting.{originate, eventOn, changeOn}
 use Rattle.model.specs.Reach.{reaches, reachSet, reachNumber, reachQuery}
 use Rattle.model.specs.Reply.{deviceListed, phyListed, broadcasts, broadcastFrame, reportGeneral, reportManufacturer}
@@ -31,6 +27,10 @@ use Rattle.model.specs.Server.{Handled, Sends, handle, lent, answer, ser
 use Rattle.model.specs.Shelf.{phyNumber, exists, phyAt, shelfWith, outcome}
 use Rattle.model.specs.Tests.{given, joinBelow}
 use Rattle.model.specs.Writes.{controlled, controlChanges, configured, effect}
+use Rattle.model.proofs.Demands.Looks.{looks, looks-reaches, looks-reached, looks-twice, looks-change}
+use Rattle.model.proofs.Laws.Checks.{both-outcomes, read-reached}
+use Rattle.model.proofs.Laws.Handled.{verdict, both-handled, both-concluded, accepted-decided}
+use Rattle.model.proofs.Laws.PhyChanges.{enablesBy, event-inner, change-inner, configured-inner, controlled-inner}
 
 -- ---- judging
 

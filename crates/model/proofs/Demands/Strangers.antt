@@ -15,11 +15,6 @@ use Rattle.model.specs.declared.Request.the-variants.{ReportGeneral, Rep
 use Rattle.model.specs.declared.Request.the-variants.{ReportPhyErrorLog, ReportPhyEvent, PhyControl, ConfigurePhyEvent}
 use Rattle.model.specs.declared.Shelf.{Shelf}
 use Rattle.model.specs.declared.Taken.the-variants.{Done, NotDone}
-use Rattle.model.proofs.Demands.Results.{Of, NotRefused, verdict-checks, result-byte, Failed, failed-result}
-use Rattle.model.proofs.Laws.Checks.{every-outcome, write-reached}
-use Rattle.model.proofs.Laws.Handled.{verdict, handled-all, accepted-decided}
-use Rattle.model.proofs.Laws.Tests.{is-false, by-each, check-both, cond-both}
-use Rattle.model.proofs.Plain.Shelf.{OnlyPhy, same-only, put-only, put-other}
 use Rattle.model.specs.Bytes.{byte, word}
 use Rattle.model.specs.Reach.{reaches}
 use Rattle.model.specs.Reports.{eventTaken, event, linkChange, reducedFunctionality, sesNotice}
@@ -29,6 +24,11 @@ use Rattle.model.specs.Server.{served, lentAfter}
 use Rattle.model.specs.Shelf.{exists, phyAt}
 use Rattle.model.specs.Tests.{check, given, oneOf}
 use Rattle.model.specs.Writes.{effect}
+use Rattle.model.proofs.Demands.Results.{Of, NotRefused, verdict-checks, result-byte, Failed, failed-result}
+use Rattle.model.proofs.Laws.Checks.{every-outcome, write-reached}
+use Rattle.model.proofs.Laws.Handled.{verdict, handled-all, accepted-decided}
+use Rattle.model.proofs.Laws.Tests.{is-false, by-each, check-both, cond-both}
+use Rattle.model.proofs.Plain.Shelf.{OnlyPhy, same-only, put-only, put-other}
 
 -- ---- A stranger's request
 

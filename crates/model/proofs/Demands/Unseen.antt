@@ -9,14 +9,6 @@ use lib.Dec.{T, eqb}
 use lib.ListN.{length}
 use Rattle.model.specs.declared.Phy.{Phy}
 use Rattle.model.specs.declared.Shelf.{Shelf}
-use Rattle.model.proofs.Demands.Looks.{looks, looks-stays}
-use Rattle.model.proofs.Laws.Checks.{every-outcome}
-use Rattle.model.proofs.Laws.Handled.{handled-all}
-use Rattle.model.proofs.Laws.PhyChanges.{Inner, event-inner, configured-inner, controlled-inner}
-use Rattle.model.proofs.Laws.Steps.{SameZones}
-use Rattle.model.proofs.Laws.Tests.{is-false, by-each}
-use Rattle.model.proofs.Plain.CrossedOut.{CrossedRequest, crossed-request-iff, crossed-event-iff}
-use Rattle.model.proofs.Plain.Request.{asked-91, asked-93}
 use Rattle.model.specs.Bytes.{byte}
 use Rattle.model.specs.Counting.{eventOn}
 use Rattle.model.specs.CrossedOut.{aboutPhy, linkResetOrDisable, crossedOut}
@@ -27,6 +19,14 @@ use Rattle.model.specs.Runs.{Operation, Ask, Event, LinkChange, ReducedF
 use Rattle.model.specs.Shelf.{phyAt}
 use Rattle.model.specs.Writes.{controlled, controlChanges, configured, effect}
 use Rattle.model.specs.Zone.{bit}
+use Rattle.model.proofs.Demands.Looks.{looks, looks-stays}
+use Rattle.model.proofs.Laws.Checks.{every-outcome}
+use Rattle.model.proofs.Laws.Handled.{handled-all}
+use Rattle.model.proofs.Laws.PhyChanges.{Inner, event-inner, configured-inner, controlled-inner}
+use Rattle.model.proofs.Laws.Steps.{SameZones}
+use Rattle.model.proofs.Laws.Tests.{is-false, by-each}
+use Rattle.model.proofs.Plain.CrossedOut.{CrossedRequest, crossed-request-iff, crossed-event-iff}
+use Rattle.model.proofs.Plain.Request.{asked-91, asked-93}
 
 -- ---- a request
 

@@ -8,6 +8,13 @@ use mathlib.Core.List.{List, [], _∷_, List·Memᴰ, List·Memᴰ·head, List·
 use lib.Dec.{T}
 use lib.ListN.{length}
 use Rattle.model.specs.declared.Shelf.{Shelf}
+use Rattle.model.specs.Bytes.{byte, word}
+use Rattle.model.specs.Reach.{reaches}
+use Rattle.model.specs.Request.{functionOf, known, lengthRight, asked}
+use Rattle.model.specs.Results.{countRight}
+use Rattle.model.specs.Server.{served, lentAfter}
+use Rattle.model.specs.Shelf.{exists}
+use Rattle.model.specs.Writes.{effect}
 use Rattle.model.proofs.Demands.Effects.{Controlled, controlled-effect, Configured, configured-effect}
 use Rattle.model.proofs.Demands.Invariant.{Fits}
 use Rattle.model.proofs.Demands.Results.{Of, SourcesAllowed, NotRefused, checks, verdict-accepted, result-byte}
@@ -18,13 +25,6 @@ use Rattle.model.proofs.Laws.Tests.{leb-iff}
 use Rattle.model.proofs.Plain.Reach.{exists-iff}
 use Rattle.model.proofs.Plain.Request.{asked-91, asked-93, by-function, right-length-91, right-length-93}
 use Rattle.model.proofs.Plain.Results.{count-right, known-operation}
-use Rattle.model.specs.Bytes.{byte, word}
-use Rattle.model.specs.Reach.{reaches}
-use Rattle.model.specs.Request.{functionOf, known, lengthRight, asked}
-use Rattle.model.specs.Results.{countRight}
-use Rattle.model.specs.Server.{served, lentAfter}
-use Rattle.model.specs.Shelf.{exists}
-use Rattle.model.specs.Writes.{effect}
 
 -- length, count, phy, zone and contents all pass
 pub record Passes (s : Shelf) (g : ℕ) (frame : List ℕ) (size : ℕ) (lengths : List ℕ) (Contents : Type 0) : Type 0 where

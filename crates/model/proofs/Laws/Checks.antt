@@ -10,12 +10,12 @@ use Rattle.model.specs.declared.House.{House}
 use Rattle.model.specs.declared.Shelf.{Shelf}
 use Rattle.model.specs.declared.Taken.{Taken}
 use Rattle.model.specs.declared.Taken.the-variants.{Done, NotDone}
-use Rattle.model.proofs.Laws.Tests.{check-iff, not-not-iff, not-false, check-same, check-map}
 use Rattle.model.specs.House.{takenNumber}
 use Rattle.model.specs.Reach.{reaches}
 use Rattle.model.specs.Results.{accepted, checkRead, checkWrite}
 use Rattle.model.specs.Shelf.{outcome}
 use Rattle.model.specs.Tests.{given}
+use Rattle.model.proofs.Laws.Tests.{check-iff, not-not-iff, not-false, check-same, check-map}
 
 refused-not-done : (house : House) → NotDone house ≡ Done → ⊥
 refused-not-done house e = let z : _≡_ {A = ℕ} 0 1 = cc in omega arith

@@ -6,8 +6,8 @@ use mathlib.Core.Logic.{_↔_, _⊎_, inl, inr, ⊎-elim}
 use mathlib.Core.Bool.{Bool, true, false, _&&_}
 use mathlib.Core.List.{List, [], _∷_}
 use lib.Dec.{T, ltb}
-use Rattle.model.proofs.Laws.Tests.{and-iff, ltb-iff}
 use Rattle.model.specs.Tests.{check}
+use Rattle.model.proofs.Laws.Tests.{and-iff, ltb-iff}
 
 -- Failures in their order, each with its code and when it is there. A code is drawn if its failure is there and none before it is;
 -- 00h is drawn if there is none at all.

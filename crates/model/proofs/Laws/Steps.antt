@@ -12,11 +12,6 @@ use Rattle.model.specs.declared.Request.the-variants.{ReportGeneral, Rep
 use Rattle.model.specs.declared.Request.the-variants.{ReportPhyErrorLog, ReportPhyEvent, PhyControl, ConfigurePhyEvent}
 use Rattle.model.specs.declared.Shelf.{Shelf}
 use Rattle.model.specs.declared.Taken.the-variants.{Done, NotDone}
-use Rattle.model.proofs.Laws.Checks.{every-outcome}
-use Rattle.model.proofs.Laws.Handled.{handled-all}
-use Rattle.model.proofs.Laws.PhyChanges.{moved, event-inner, change-inner, configured-inner, controlled-inner}
-use Rattle.model.proofs.Laws.Places.{change-at}
-use Rattle.model.proofs.Plain.Shelf.{SameFrame, same-frame, put-frame, device-frame}
 use Rattle.model.specs.Counting.{eventOn, changeOn}
 use Rattle.model.specs.Reports.{eventTaken, event, linkChange, reducedFunctionality, sesNotice}
 use Rattle.model.specs.Request.{asked}
@@ -24,6 +19,11 @@ use Rattle.model.specs.Runs.{Operation, Ask, Event, LinkChange, ReducedF
 use Rattle.model.specs.Shelf.{noPhy, exists, phyAt, put, putDevice}
 use Rattle.model.specs.Tests.{given}
 use Rattle.model.specs.Writes.{controlled, controlChanges, configured, effect}
+use Rattle.model.proofs.Laws.Checks.{every-outcome}
+use Rattle.model.proofs.Laws.Handled.{handled-all}
+use Rattle.model.proofs.Laws.PhyChanges.{moved, event-inner, change-inner, configured-inner, controlled-inner}
+use Rattle.model.proofs.Laws.Places.{change-at}
+use Rattle.model.proofs.Plain.Shelf.{SameFrame, same-frame, put-frame, device-frame}
 
 -- From s to t. A change of a phy is what becomes of the phy, and whether that moves the change count; each keeps what is asked.
 pub data Step (Keeps : (Phy → Phy) → (Phy → Bool) → Type 0) (s t : Shelf) : Type 0 where

@@ -7,7 +7,6 @@ use mathlib.Core.List.{List, [], _∷_, List·Memᴰ}
 use lib.Dec.{T, leb, eqb}
 use lib.ListN.{length}
 use Rattle.model.specs.declared.Shelf.{Shelf}
-use Rattle.model.proofs.Laws.Tests.{denied-iff, both-iff, all-three-iff, leb-iff, eqb-iff, oneOf-iff}
 use Rattle.model.specs.Bytes.{byte}
 use Rattle.model.specs.CrossedOut.{aboutPhy, linkResetOrDisable, crossedOut}
 use Rattle.model.specs.Reach.{reaches}
@@ -15,6 +14,7 @@ use Rattle.model.specs.Request.{functionOf}
 use Rattle.model.specs.Runs.{Ask, Event}
 use Rattle.model.specs.Shelf.{exists}
 use Rattle.model.specs.Tests.{oneOf}
+use Rattle.model.proofs.Laws.Tests.{denied-iff, both-iff, all-three-iff, leb-iff, eqb-iff, oneOf-iff}
 
 -- "a request is about a phy when its function is 11h, 14h, 91h or 93h, it has at least 12 bytes and byte 9 names an existing phy"
 abbrev pub About : Shelf → List ℕ → Type 0

@@ -7,10 +7,10 @@ use mathlib.Core.List.{List, [], _∷_}
 use lib.Dec.{T}
 use lib.ListN.{length, getD}
 use Rattle.model.specs.declared.Monitor.{Monitor}
-use Rattle.model.proofs.Laws.Tests.{either-iff}
 use Rattle.model.specs.Shelf.{freshMonitor}
 use Rattle.model.specs.Sources.{peak}
 use Rattle.model.specs.Writes.{setMonitors, anyPeak}
+use Rattle.model.proofs.Laws.Tests.{either-iff}
 
 -- a 93h sets monitors in their places, and adds or drops none
 pub set-length : (frame : List ℕ) (d i : ℕ) (ms : List Monitor) → length (setMonitors frame d i ms) ≡ length ms
