@@ -21,6 +21,10 @@ crossed =
     -- operations 00h, 02h and 05h of a 91h; 05h stands above
     ∷ (8, sent 9 (control 0x09 0x00 2 0x00))
     ∷ (8, sent 9 (control 0x09 0x00 2 0x02))
+    -- in the other functions byte 10 says nothing
+    ∷ (8, sent 9 (hex "40 11 00 02 00 00 00 00 00 02 01 00"))
+    ∷ (8, sent 9 (hex "40 14 00 02 00 00 00 00 00 02 03 00"))
+    ∷ (8, sent 9 (hex "40 93 00 02 00 00 01 00 00 02 01 00"))
     -- twelve bytes are enough, whatever the length should be and whatever byte 0 and byte 3 are
     ∷ (8, sent 9 (take 12 (control 0x09 0x00 2 0x05)))
     ∷ (8, sent 9 (hex "41 14 00 77 00 00 00 00 00 02 00 00"))
