@@ -9,7 +9,7 @@ use Rattle.model.specs.declared.Reach.the-variants.{Reaches, NoReach}
 use Rattle.model.specs.Hex.{hex}
 use Rattle.model.specs.Runs.{Operation, Ask, Event, LinkChange, ReducedFunctionality, Ses, QueryReach, Told, Answered}
 use Rattle.model.specs.Runs.{Shown}
-use Rattle.model.specs.Vectors.Tools.{readPhy, readBroadcasts}
+use Rattle.model.specs.Vectors.Tools.{readPhy, readBroadcasts, control}
 
 -- what stood in the lent buffer
 abbrev pub old : ℕ → List ℕ
@@ -29,15 +29,19 @@ mixed =
     ∷ Ses
     ∷ QueryReach 32
     ∷ Ask 8 (readPhy 0x14 0x02 2) (old 1030)
+    ∷ Ask 8 (control 0x09 0x02 0 0x01) (old 1028)
+    ∷ Ask 8 (control 0x09 0x02 0 0x01) (old 1028)
     ∷ []
 
--- group 8: 06h's list of 16 bytes, the reach of 8, H5, and 16h of phy 2
+-- group 8: 06h's list of 16 bytes, the reach of 8, H5, 16h of phy 2, and two link resets, of which the first moves the change count
 unfoldable pub to8 : List Told
 to8 =
     Answered (Response 16) (hex "41 06 00 03 00 02 00 01 00 00 00 00 00 01 00 00" ++ old 1012)
     ∷ Shown (Reaches 0x0000000B 3)
     ∷ Answered (NoResponse ShortBuffer) (old 3)
     ∷ Answered (Response 4) (hex "41 14 16 00" ++ old 1026)
+    ∷ Answered (Response 4) (hex "41 91 00 00" ++ old 1024)
+    ∷ Answered (Response 4) (hex "41 91 04 00" ++ old 1024)
     ∷ []
 
 -- group 32, which is no zone group: H4 and H4
