@@ -6,10 +6,9 @@ use mathlib.Core.Bool.{not}
 use mathlib.Core.List.{List}
 use lib.Dec.{T}
 use lib.ListN.{getD}
-use Rattle.model.specs.declared.House.{House}
 use Rattle.model.specs.declared.House.the-variants.{PhyNumber, PhyGroup, IllegalTable}
-use Rattle.model.specs.declared.Taken.the-variants.{Done, NotDone}
-use Rattle.model.specs.Shelf.{phyAt, noPhy, freshPhy, startGroup, freshShelf, noShelf, startTaken, start}
+use Rattle.model.specs.declared.Taken.the-variants.{Done}
+use Rattle.model.specs.Shelf.{phyAt, noPhy, freshPhy, startGroup, freshShelf, startTaken}
 use Rattle.model.specs.Tests.{within, allBelow}
 use Rattle.model.specs.Zone.{zoneGroup, legalTable}
 use Rattle.model.proofs.Laws.Checks.{none-given-iff, unless-iff}
@@ -48,10 +47,3 @@ pub fresh-phys : (n : ℕ) (groups table identifier : List ℕ) (p : ℕ) → p 
     → phyAt (freshShelf n groups table identifier) p ≡ freshPhy (startGroup n groups p)
 unfolding freshShelf
 fresh-phys n groups table identifier p h = join-at 24 (λ q. freshPhy (startGroup n groups q)) noPhy p h
-
--- "A refused start gives no device."
-pub start-refused : (n : ℕ) (groups table identifier : List ℕ) (house : House)
-    → startTaken n groups table ≡ NotDone house
-    → start n groups table identifier ≡ record { taken = NotDone house; shelf = noShelf }
-unfolding start
-start-refused n groups table identifier house e = rw e
