@@ -9,10 +9,12 @@ pub mod Frames
 pub mod Invariant
 pub mod ChangeCount
 pub mod Outcomes
--- demand 3: what a shelf looks like to a group, one operation, a crossed-out one, whole runs, and two answers for readers
+-- demand 3: what a shelf looks like to a group, one operation, a crossed-out one, what remains of a run, the theorem, and what a reader
+-- will ask
 pub mod Looks
-pub mod Steps
+pub mod OneOperation
 pub mod Unseen
+pub mod Remains
 pub mod Isolation
 pub mod OnShelfW
 -- beside it: what a stranger does and learns

@@ -1,72 +1,23 @@
 -- Demand 3. "Take two runs from the same start, and pick one source group. Cross out of both runs other groups' requests about phys it
 -- can't reach, save link resets and disables, and reports of events on such phys, save link changes. If what remains is the same in
--- both, every answer that group gets is the same, byte for byte." Assumes nothing.
+-- both, every answer that group gets is the same, byte for byte. Link resets, disables and link changes stay because they move the
+-- change count, which all may read." Assumes nothing.
+--
+-- What an operation is, and what a group gets in a run, is in `specs/Runs`; what is crossed out is in `specs/CrossedOut`, and checked
+-- cases say what that is. The proof goes by what a shelf looks like to a group (`Looks`): each operation looks the same on two shelves
+-- that look the same (`OneOperation`), a crossed-out one is not seen (`Unseen`), so a run's answers are those of what remains of it (`Remains`).
+-- `OnShelfW` shows that this is no empty talk, and why link resets, disables and link changes must stay. What demand 3 leaves open, that
+-- a stranger's own requests do nothing and tell him nothing, is in `Strangers`.
 use Prim.Native.Nat.{ℕ}
-use mathlib.Core.Path.{_≡_, refl, sym, ap, ap₂, _∙_}
-use mathlib.Core.Bool.{Bool, true, false, cond}
-use mathlib.Core.List.{List, [], _∷_, _++_}
-use lib.Dec.{T}
+use mathlib.Core.Path.{_≡_, sym, ap, _∙_}
+use mathlib.Core.List.{List}
 use Rattle.model.specs.declared.Shelf.{Shelf}
 use Rattle.model.specs.declared.Taken.the-variants.{Done}
-use Rattle.model.specs.CrossedOut.{crossedOut, remains}
-use Rattle.model.specs.Runs.{Operation, Told, next, told, answers}
+use Rattle.model.specs.CrossedOut.{remains}
+use Rattle.model.specs.Runs.{Operation, answers}
 use Rattle.model.specs.Shelf.{start}
-use Rattle.model.proofs.Demands.Looks.{looks}
-use Rattle.model.proofs.Demands.Steps.{looks-next, looks-told}
-use Rattle.model.proofs.Demands.Unseen.{crossed-unseen, crossed-untold, crossed-zones}
-use Rattle.model.proofs.Laws.Steps.{SameZones, next-zones, zones-same, zones-on}
-
--- ---- Two shelves that look the same to g give it the same answers, whatever happens.
-
-same-next : (g : ℕ) (s t : Shelf) (operation : Operation) → looks g s ≡ looks g t
-    → looks g (next s operation) ≡ looks g (next t operation)
-same-next g s t operation e =
-    sym (looks-next g s operation) ∙ ap (λ u. looks g (next u operation)) e ∙ looks-next g t operation
-
-same-told : (g : ℕ) (s t : Shelf) (operation : Operation) → looks g s ≡ looks g t
-    → told g s operation ≡ told g t operation
-same-told g s t operation e =
-    sym (looks-told g s operation) ∙ ap (λ u. told g u operation) e ∙ looks-told g t operation
-
-pub same-answers : (g : ℕ) (s t : Shelf) (operations : List Operation) → looks g s ≡ looks g t
-    → answers g s operations ≡ answers g t operations
-unfolding answers
-same-answers g s t [] e = refl
-same-answers g s t (operation ∷ operations) e =
-    ap₂ (λ (first rest : List Told). first ++ rest) (same-told g s t operation e)
-    (same-answers g (next s operation) (next t operation) operations (same-next g s t operation e))
-
--- ---- A run's answers are those of what remains of it.
-
--- One operation: s₀ is the shelf at which the crossing-out is judged, s the one where the run stands. Crossed out, it tells g nothing,
--- and the shelf looks as before.
-remains-step : (g : ℕ) (s₀ s : Shelf) (operation : Operation) (operations : List Operation) → SameZones s₀ s
-    → answers g (next s operation) operations ≡ answers g (next s operation) (remains g s₀ operations)
-    → answers g s (operation ∷ operations) ≡ answers g s (remains g s₀ (operation ∷ operations))
-unfolding answers remains
-remains-step g s₀ s operation operations zones later = go (crossedOut g s₀ operation) refl
-  where
-    rest : List Operation
-    rest = remains g s₀ operations
-
-    go : (b : Bool) → crossedOut g s₀ operation ≡ b
-        → told g s operation ++ answers g (next s operation) operations ≡ answers g s (cond b rest (operation ∷ rest))
-    go true e =
-        let crossed : T (crossedOut g s operation) = rw (crossed-zones g s₀ s operation zones, e) tt in
-        ap (λ first. first ++ answers g (next s operation) operations) (crossed-untold g s operation crossed)
-        ∙ later
-        ∙ same-answers g (next s operation) s rest (crossed-unseen g s operation crossed)
-    go false e = ap (λ then. told g s operation ++ then) later
-
-remains-answers : (g : ℕ) (s₀ s : Shelf) (operations : List Operation) → SameZones s₀ s
-    → answers g s operations ≡ answers g s (remains g s₀ operations)
-unfolding remains
-remains-answers g s₀ s [] zones = refl
-remains-answers g s₀ s (operation ∷ operations) zones =
-    remains-step g s₀ s operation operations zones
-    (remains-answers g s₀ (next s operation) operations (zones-on s₀ s (next s operation) zones (next-zones s operation)))
-
--- ---- Demand 3
+use Rattle.model.proofs.Demands.Remains.{remains-answers}
+use Rattle.model.proofs.Laws.Steps.{zones-same}
 
 -- of any shelf, whether or not a start made it
 pub cant-tell : (s : Shelf) (g : ℕ) (one other : List Operation) → remains g s one ≡ remains g s other
