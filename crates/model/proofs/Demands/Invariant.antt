@@ -179,24 +179,24 @@ module _ (frame : List ℕ) (fit : BytesFit frame) where
 -- ---- one phy
 
 -- x became y: its numbers fit if they did, and its group is the same
-abbrev Kept : Phy → Phy → Type 0
-Kept x y = (PhyFits x → PhyFits y) × (y .group ≡ x .group)
+abbrev FitsOn : Phy → Phy → Type 0
+FitsOn x y = (PhyFits x → PhyFits y) × (y .group ≡ x .group)
 
-kept-same : (x : Phy) → Kept x x
-kept-same x = (λ f. f, refl)
+fits-same : (x : Phy) → FitsOn x x
+fits-same x = (λ f. f, refl)
 
-kept-then : (x y z : Phy) → Kept x y → Kept y z → Kept x z
-kept-then x y z first second = (λ f. second .0 (first .0 f), second .1 ∙ first .1)
+fits-then : (x y z : Phy) → FitsOn x y → FitsOn y z → FitsOn x z
+fits-then x y z first second = (λ f. second .0 (first .0 f), second .1 ∙ first .1)
 
 -- other numbers in it, from what each keeps
-kept-with : (x : Phy) {enabled : Bool} {errors : List ℕ} {ms : List Monitor} {change0 expander1 expander2 : ℕ}
+fits-with : (x : Phy) {enabled : Bool} {errors : List ℕ} {ms : List Monitor} {change0 expander1 expander2 : ℕ}
     → (ErrorsFit (x .errors) → ErrorsFit errors)
     → (MonitorsFit (x .monitors) → MonitorsFit ms)
     → (x .change0 ≤ 0xFFFF → change0 ≤ 0xFFFF)
     → (x .expander1 ≤ 0xFFFF → expander1 ≤ 0xFFFF)
     → (x .expander2 ≤ 0xFFFF → expander2 ≤ 0xFFFF)
-    → Kept x (phyWith x enabled errors ms change0 expander1 expander2)
-kept-with x es fs c0 e1 e2 = (
+    → FitsOn x (phyWith x enabled errors ms change0 expander1 expander2)
+fits-with x es fs c0 e1 e2 = (
   λ f.
       record {
         group = f .group;
@@ -211,52 +211,52 @@ kept-with x es fs c0 e1 e2 = (
   refl,
 )
 
-event-keeps : (source amount : ℕ) → amount ≤ 0xFFFFFFFF → (x : Phy) → Kept x (eventOn source amount x)
+event-keeps : (source amount : ℕ) → amount ≤ 0xFFFFFFFF → (x : Phy) → FitsOn x (eventOn source amount x)
 unfolding eventOn
 event-keeps source amount h x =
-    kept-with x (add-error-fits source amount (x .errors))
+    fits-with x (add-error-fits source amount (x .errors))
     (map-fits (counted source amount) (counted-fits source amount h) (x .monitors))
     (λ f. f)
     (crossings-fit source amount (x .monitors) (x .expander1))
     (λ f. f)
 
-change-keeps : (enabled : Bool) (x : Phy) → Kept x (changeOn enabled x)
+change-keeps : (enabled : Bool) (x : Phy) → FitsOn x (changeOn enabled x)
 unfolding changeOn
 change-keeps enabled x =
-    kept-with x (λ f. f) (λ f. f) (moved-fits true (x .change0)) (λ f. f) (λ f. f)
+    fits-with x (λ f. f) (λ f. f) (moved-fits true (x .change0)) (λ f. f) (λ f. f)
 
-without-errors-keeps : (x : Phy) → Kept x (withoutErrors x)
-without-errors-keeps x = kept-with x (λ f. no-errors-fit) (λ f. f) (λ f. f) (λ f. f) (λ f. f)
+without-errors-keeps : (x : Phy) → FitsOn x (withoutErrors x)
+without-errors-keeps x = fits-with x (λ f. no-errors-fit) (λ f. f) (λ f. f) (λ f. f) (λ f. f)
 
-control-keeps : (operation : ℕ) (x : Phy) → Kept x (controlled operation x)
+control-keeps : (operation : ℕ) (x : Phy) → FitsOn x (controlled operation x)
 unfolding controlled
 control-keeps operation x =
-    cond-both (Kept x) (eqb operation 0x01) _ _ (change-keeps true x)
-    (cond-both (Kept x) (eqb operation 0x03) _ _ (cond-both (Kept x) (x .enabled) _ _ (change-keeps false x) (kept-same x))
-    (cond-both (Kept x) (eqb operation 0x05) _ _ (without-errors-keeps x)
-    (kept-same x)))
+    cond-both (FitsOn x) (eqb operation 0x01) _ _ (change-keeps true x)
+    (cond-both (FitsOn x) (eqb operation 0x03) _ _ (cond-both (FitsOn x) (x .enabled) _ _ (change-keeps false x) (fits-same x))
+    (cond-both (FitsOn x) (eqb operation 0x05) _ _ (without-errors-keeps x)
+    (fits-same x)))
 
-set-keeps : (frame : List ℕ) → BytesFit frame → (d : ℕ) (x : Phy) → Kept x (setOn frame d x)
+set-keeps : (frame : List ℕ) → BytesFit frame → (d : ℕ) (x : Phy) → FitsOn x (setOn frame d x)
 set-keeps frame fit d x =
-    kept-with x (λ f. f) (set-fits frame fit d (x .monitors)) (λ f. f) (λ f. f) (λ f. f)
+    fits-with x (λ f. f) (set-fits frame fit d (x .monitors)) (λ f. f) (λ f. f) (λ f. f)
 
-clear-keeps : (x : Phy) → Kept x (clearOn x)
+clear-keeps : (x : Phy) → FitsOn x (clearOn x)
 clear-keeps x =
-    kept-with x (λ f. f) (map-fits clearMonitor clear-fits (x .monitors)) (λ f. f) (λ f. f)
+    fits-with x (λ f. f) (map-fits clearMonitor clear-fits (x .monitors)) (λ f. f) (λ f. f)
     (moved-fits (anyPeak (x .monitors)) (x .expander2))
 
 configure-keeps : (frame : List ℕ) → BytesFit frame → (d : ℕ) (clear : Bool) (x : Phy)
-    → Kept x (configured frame d clear x)
+    → FitsOn x (configured frame d clear x)
 unfolding configured
 configure-keeps frame fit d clear x =
-    let set : Kept x (setOn frame d x) = set-keeps frame fit d x in
-    cond-both (Kept x) clear _ _ (kept-then x _ _ set (clear-keeps (setOn frame d x))) set
+    let set : FitsOn x (setOn frame d x) = set-keeps frame fit d x in
+    cond-both (FitsOn x) clear _ _ (fits-then x _ _ set (clear-keeps (setOn frame d x))) set
 
 -- ---- every operation keeps it
 
 -- what each change of a phy keeps
 abbrev KeepsFit : (Phy → Phy) → (Phy → Bool) → Type 0
-KeepsFit f moves = (x : Phy) → Kept x (f x)
+KeepsFit f moves = (x : Phy) → FitsOn x (f x)
 
 fit-kept : (operation : Operation) → OperationFits operation → KeptBy KeepsFit operation
 fit-kept (Ask g frame out) fit = (control-keeps, configure-keeps frame fit)
@@ -270,8 +270,8 @@ moved-fits′ : (before after : ℕ) → (b : Bool) × (after ≡ moved b before
 moved-fits′ before after (b, e) h = rw e (moved-fits b before h)
 
 module _ (s t : Shelf) (step : Step KeepsFit s t) where
-  kept-phys : (p : ℕ) → Kept (phyAt s p) (phyAt t p)
-  kept-phys = step-phys KeepsFit Kept kept-same (λ f moves keeps x y kept. kept-then x y (f y) kept (keeps y)) s t step
+  phys-fit-on : (p : ℕ) → FitsOn (phyAt s p) (phyAt t p)
+  phys-fit-on = step-phys KeepsFit FitsOn fits-same (λ f moves keeps x y kept. fits-then x y (f y) kept (keeps y)) s t step
 
   step-fits : Fits s → Fits t
   step-fits f =
@@ -280,7 +280,7 @@ module _ (s t : Shelf) (step : Step KeepsFit s t) where
       record {
         number = rw (frame .number) (f .number);
         phys-size = counts .size ∙ f .phys-size;
-        phys = λ p below. kept-phys p .0 (f .phys p below);
+        phys = λ p below. phys-fit-on p .0 (f .phys p below);
         table-size = rw (frame .table) (f .table-size);
         table = rw (frame .table) (f .table);
         identifier-size = rw (frame .identifier) (f .identifier-size);
@@ -305,7 +305,7 @@ next-sound s o fit sound =
     record {
       fits = step-fits s (next s o) step (sound .fits);
       number = rw (frame .number) (sound .number);
-      groups = λ p below. rw (kept-phys s (next s o) step p .1) (sound .groups p below);
+      groups = λ p below. rw (phys-fit-on s (next s o) step p .1) (sound .groups p below);
       legal = rw (frame .table) (sound .legal);
       present = step-present s (next s o) step (sound .fits) (sound .present);
     }

@@ -29,6 +29,12 @@ not-both-iff true true = (λ t. absurd t, λ f. f tt tt)
 not-both-iff true false = (λ t a b. b, λ f. tt)
 not-both-iff false b = (λ t a b′. a, λ f. tt)
 
+pub same-iff : (a b : Bool) → T (Bool·beq a b) ↔ (a ≡ b)
+same-iff true true = (λ t. refl, λ e. tt)
+same-iff true false = (λ t. absurd t, λ e. absurd (true≢false e))
+same-iff false true = (λ t. absurd t, λ e. absurd (false≢true e))
+same-iff false false = (λ t. refl, λ e. tt)
+
 -- a test that holds is true, and one that doesn't is false
 pub is-true : (a : Bool) → T a → a ≡ true
 is-true true t = refl
@@ -45,12 +51,6 @@ not-false false other = absurd (other refl)
 -- the denial of a test, from what the test says
 pub denied-iff : (a : Bool) {A : Type 0} → T a ↔ A → T (not a) ↔ (A → ⊥)
 denied-iff a f = (λ t x. T-not a t (f .1 x), λ no-a. not-T a (λ t. no-a (f .0 t)))
-
-pub same-iff : (a b : Bool) → T (Bool·beq a b) ↔ (a ≡ b)
-same-iff true true = (λ t. refl, λ e. tt)
-same-iff true false = (λ t. absurd t, λ e. absurd (true≢false e))
-same-iff false true = (λ t. absurd t, λ e. absurd (false≢true e))
-same-iff false false = (λ t. refl, λ e. tt)
 
 -- that a test fails, from what it says: by itself, and where it is asked only under a condition
 pub fails-iff : (a : Bool) {A : Type 0} → T a ↔ A → (T a → ⊥) ↔ (A → ⊥)
@@ -118,15 +118,15 @@ oneOf-iff (x ∷ xs) n =
     Iff·trans (either-iff (eqb n x) (oneOf xs n) (eqb-iff n x) (oneOf-iff xs n)) (Iff·symm (member-iff n x xs))
 
 -- what follows from being each of a list follows from being one of them
-abbrev pub Each : ℕ → List ℕ → Type 0 → Type 0
-Each n [] P = P
-Each n (x ∷ xs) P = (n ≡ x → P) → Each n xs P
+abbrev pub FromEach : ℕ → List ℕ → Type 0 → Type 0
+FromEach n [] P = P
+FromEach n (x ∷ xs) P = (n ≡ x → P) → FromEach n xs P
 
-settled : (P : Type 0) (n : ℕ) (xs : List ℕ) → P → Each n xs P
+settled : (P : Type 0) (n : ℕ) (xs : List ℕ) → P → FromEach n xs P
 settled P n [] p = p
 settled P n (x ∷ xs) p = λ f. settled P n xs p
 
-pub by-each : (P : Type 0) (n : ℕ) (xs : List ℕ) → List·Memᴰ n xs → Each n xs P
+pub by-each : (P : Type 0) (n : ℕ) (xs : List ℕ) → List·Memᴰ n xs → FromEach n xs P
 by-each P n [] m = absurd (List·Memᴰ·not-nil m)
 by-each P n (x ∷ xs) m = λ f. ⊎-elim (λ e. settled P n xs (f e)) (λ m′. by-each P n xs m′) (member-iff n x xs .0 m)
 

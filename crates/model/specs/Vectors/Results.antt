@@ -27,6 +27,11 @@ results =
     ∷ fresh 0x10 (Send 2 (control 0x09 0x01 4 0x07)) (Bytes (hex "41 91 10 00"))
     ∷ fresh 0x20 (Send 8 (control 0x09 0x01 2 0x07)) (Bytes (hex "41 91 20 00"))
     ∷ fresh 0x20 (Send 8 (configure 0x0C 0x01 0x00 2 5 (zeros 40))) (Bytes (hex "41 93 20 00"))
+    -- 20h for each operation that is known
+    ∷ fresh 0x20 (Send 8 (control 0x09 0x01 2 0x00)) (Bytes (hex "41 91 20 00"))
+    ∷ fresh 0x20 (Send 8 (control 0x09 0x01 2 0x01)) (Bytes (hex "41 91 20 00"))
+    ∷ fresh 0x20 (Send 8 (control 0x09 0x01 2 0x03)) (Bytes (hex "41 91 20 00"))
+    ∷ fresh 0x20 (Send 8 (control 0x09 0x01 2 0x05)) (Bytes (hex "41 91 20 00"))
     ∷ fresh 0x16 (Send 9 (readPhy 0x11 0x00 0)) (Bytes (hex "41 11 16 00"))
     -- 13h; 02h of a type above 0Fh, and of five descriptors before the first of them is judged; 17h
     ∷ fresh 0x13 (Send 8 (control 0x00 0x01 0 0x02)) (Bytes (hex "41 91 13 00"))
