@@ -290,8 +290,7 @@ module _ (frame : List ℕ) (x : Phy) where
       → getD monitorsAfter i freshMonitor ≡ monitorAfter frame i (monitorAt x i)
   each-after i h = rw (cleared-at, set-at frame (x .monitors) 0 i i (zero-add i) h) (after-is frame i (monitorAt x i))
 
--- An accepted 93h has "the full effect": "each named monitor's source, threshold and value, then the clear; every other phy, and every
--- other number, unchanged".
+-- an accepted 93h, of a phy that there is, does exactly this
 pub configured-effect : (s : Shelf) (frame : List ℕ) (expected p : ℕ) → p < length (s .phys)
     → Configured s p frame (effect s frame (ConfigurePhyEvent expected (clears frame) p (byte frame 11)))
 unfolding effect

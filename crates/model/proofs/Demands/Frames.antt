@@ -1,5 +1,5 @@
--- "Every accepted response has `length ≡ 4 + 4 * byte 3`, every byte below 256 on a shelf whose numbers fit their widths,
--- and at most 1,028 bytes." So has every failed one. Assumes nothing.
+-- Every response, accepted or failed, has 4 bytes and 4 for each dword that byte 3 says, at most 1,028 in all, and every byte is below 256
+-- on a shelf whose numbers fit their widths. Assumes nothing.
 use Prim.Native.Nat.{ℕ, _+_, _*_, _≤_, _<_, zero-le}
 use native.Mathlib.Nat.{le-refl}
 use native.Mathlib.Omega.{arith}
@@ -228,7 +228,7 @@ respond-fits s g (ReportPhyEvent p) fits small =
 respond-fits s g (PhyControl expected p operation) fits small = fits-by (response 0x91 4 0x00 []) (omega arith) tt
 respond-fits s g (ConfigurePhyEvent expected clear p d) fits small = fits-by (response 0x93 4 0x00 []) (omega arith) tt
 
--- "every byte below 256 on a shelf whose numbers fit their widths"
+-- every byte of every response
 pub response-fits : (s : Shelf) (g : ℕ) (frame : List ℕ) (room : ℕ) (bytes : List ℕ) → Fits s → BytesFit frame
     → handle s g frame room .reply ≡ Sends bytes → BytesFit bytes
 response-fits s g frame room bytes fits fit =

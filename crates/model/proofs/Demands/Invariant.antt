@@ -1,5 +1,5 @@
--- "Starting gives a shelf whose numbers fit, with at most 24 phys and groups below 32, and every operation keeps that."
--- Assumes nothing.
+-- A start gives a shelf whose numbers fit their widths, with 1 to 24 phys, groups up to 31 and a change count that is not 0000h, and every
+-- operation keeps that. Assumes nothing.
 use Prim.Native.Nat.{ℕ, zero, suc, _+_, _≤_, _<_, zero-le}
 use native.Mathlib.Omega.{arith}
 use mathlib.Core.Path.{_≡_, refl, _∙_}
@@ -70,8 +70,8 @@ pub record Fits (s : Shelf) : Type 0 where
   pub expander3 : s .expander3 ≤ 0xFFFF
   pub ses0 : s .ses0 ≤ 0xFFFF
 
--- The invariant: every number fits, "1 to 24 phys", "Zone groups 0 to 31", the table is legal, and "0000h, the forcing
--- value, is never a present count".
+-- The invariant: every number fits, "1 to 24 phys", "Zone groups 0 to 31", the table is legal, and 0000h, "the forcing value", is not the
+-- present count.
 pub record Sound (s : Shelf) : Type 0 where
   pub fits : Fits s
   pub number : (1 ≤ s .number) × (s .number ≤ 24)
