@@ -63,7 +63,7 @@ module _ (r : ℕ) where
       go true = refl
       go false = refl
 
-  -- how such a change looks depends on how the phy looked alone
+  -- how a change looks that keeps the group, and makes enabled or not by that alone, depends on how the phy looked
   pub seen-change : (f : Phy → Phy) (enables : Bool → Bool) → Inner f enables → (x : Phy)
       → seen r (f (seen r x)) ≡ seen r (f x)
   seen-change f enables inner x = go (rowReaches r (x .group)) refl
@@ -79,7 +79,7 @@ module _ (r : ℕ) where
       go true e = ap (λ y. seen r (f y)) (seen-reached x e)
       go false e = unseen (seen r x) refl refl e ∙ sym (unseen x refl refl e)
 
-  -- and one that leaves it enabled or not as it was is not seen out of reach
+  -- and such a change that leaves it enabled or not as it was is not seen out of reach
   pub seen-stays : (f : Phy → Phy) → Inner f (λ b. b) → (x : Phy) → rowReaches r (x .group) ≡ false
       → seen r (f x) ≡ seen r x
   seen-stays f inner x out =
