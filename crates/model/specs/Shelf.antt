@@ -129,6 +129,6 @@ startTaken n groups table =
     (given (not (legalTable table)) (NotDone IllegalTable)
     Done))
 
--- "A start takes phy number, 24 groups, table and identifier."
+-- "A start takes phy number, 24 groups .., table and identifier."
 unfoldable pub start : ℕ → List ℕ → List ℕ → List ℕ → Outcome
 start n groups table identifier = outcome (startTaken n groups table) noShelf (freshShelf n groups table identifier)

@@ -1,8 +1,9 @@
 -- "Change also moves the change count the same way", and nothing else does. Assumes nothing.
 use Prim.Native.Nat.{ℕ, _<_}
 use mathlib.Core.Path.{_≡_, refl, ap, _∙_}
-use mathlib.Core.Bool.{Bool, true, false, not}
-use lib.ListN.{length}
+use mathlib.Core.Bool.{Bool, true, false, not, false≢true}
+use lib.Dec.{T}
+use lib.ListN.{length, getD}
 use Rattle.model.specs.declared.House.the-variants.{NoSuchPhy}
 use Rattle.model.specs.declared.Phy.{Phy}
 use Rattle.model.specs.declared.Shelf.{Shelf}
@@ -10,7 +11,7 @@ use Rattle.model.specs.declared.Taken.the-variants.{Done, NotDone}
 use Rattle.model.specs.Counting.{originate, changeOn}
 use Rattle.model.specs.Reports.{eventTaken, event, linkChange, reducedFunctionality, sesNotice}
 use Rattle.model.specs.Runs.{Operation, Ask, Event, LinkChange, ReducedFunctionality, Ses, QueryReach, next}
-use Rattle.model.specs.Shelf.{exists, phyAt, put, outcome}
+use Rattle.model.specs.Shelf.{noPhy, exists, phyAt, put, outcome}
 use Rattle.model.specs.Tests.{given}
 use Rattle.model.proofs.Laws.Checks.{every-outcome}
 use Rattle.model.proofs.Laws.PhyChanges.{moved, Changes, event-changes, change-changes, configured-changes}
@@ -18,12 +19,14 @@ use Rattle.model.proofs.Laws.PhyChanges.{controlled-changes}
 use Rattle.model.proofs.Laws.Steps.{Step, Stays, Moves, Notes, KeptBy, next-step}
 use Rattle.model.proofs.Plain.Shelf.{put-same, put-other}
 
--- ---- Every operation: the change count and the Change count of one phy are originated together, or neither is; and no other phy's is.
+-- ---- Every operation: the change count and the Change count of one phy that exists are originated together, or neither is; and no
+-- other phy's is.
 
 pub record Together (s t : Shelf) : Type 0 where
   pub originates : Bool
   pub phy : ℕ
   pub count : t .changes ≡ moved originates (s .changes)
+  pub there : originates ≡ true → T (exists s phy)
   pub here : phy < length (s .phys) → phyAt t phy .change0 ≡ moved originates (phyAt s phy .change0)
   pub others : (q : ℕ) → (q ≡ phy → ⊥) → phyAt t q .change0 ≡ phyAt s q .change0
 
@@ -35,22 +38,34 @@ all-change ReducedFunctionality = tt
 all-change Ses = tt
 all-change (QueryReach g) = tt
 
+-- neither is originated
+still : (s t : Shelf) → t .phys ≡ s .phys → t .changes ≡ s .changes → Together s t
+still s t phys count =
+    let same : (q : ℕ) → phyAt t q .change0 ≡ phyAt s q .change0 = λ q. ap (λ ps. getD ps q noPhy .change0) phys in
+    record {
+      originates = false;
+      phy = 0;
+      there = λ e. absurd (false≢true e);
+      count = count;
+      here = λ h. same 0;
+      others = λ q apart. same q;
+    }
+
 step-together : (s t : Shelf) → Step Changes s t → Together s t
-step-together s t (Stays e) =
-    rw e (record { originates = false; phy = 0; count = refl; here = λ h. refl; others = λ q apart. refl })
-step-together s t (Moves p f moves changes e) =
+step-together s t (Stays e) = still s t (ap (λ u. u .phys) e) (ap (λ u. u .changes) e)
+step-together s t (Moves p f moves placed changes e) =
     let x : Phy = phyAt s p in
     let n : ℕ = moved (moves x) (s .changes) in
     rw e
     (record {
       originates = moves x;
       phy = p;
+      there = λ moving. placed;
       count = refl;
       here = λ h. ap (λ y. y .change0) (put-same s p (f x) n h) ∙ changes x;
       others = λ q apart. ap (λ y. y .change0) (put-other s p (f x) n q apart);
     })
-step-together s t (Notes a b e) =
-    rw e (record { originates = false; phy = 0; count = refl; here = λ h. refl; others = λ q apart. refl })
+step-together s t (Notes a b e) = still s t (ap (λ u. u .phys) e) (ap (λ u. u .changes) e)
 
 pub next-together : (s : Shelf) (operation : Operation) → Together s (next s operation)
 next-together s operation = step-together s (next s operation) (next-step Changes s operation (all-change operation))
@@ -60,7 +75,7 @@ next-together s operation = step-together s (next s operation) (next-step Change
 pub event-count : (s : Shelf) (p source amount : ℕ) → event s p source amount .shelf .changes ≡ s .changes
 unfolding event
 event-count s p source amount =
-    every-outcome (λ t. t .changes ≡ s .changes) (eventTaken s p source amount) s _ refl refl
+    every-outcome (λ t. t .changes ≡ s .changes) (eventTaken s p source amount) s _ refl (λ done. refl)
 
 pub notices-count : (s : Shelf) → (reducedFunctionality s .changes ≡ s .changes) × (sesNotice s .changes ≡ s .changes)
 unfolding reducedFunctionality sesNotice

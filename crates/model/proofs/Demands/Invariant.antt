@@ -26,10 +26,10 @@ use Rattle.model.specs.Zone.{row}
 use Rattle.model.proofs.Laws.Join.{join-length}
 use Rattle.model.proofs.Laws.PhyChanges.{moved}
 use Rattle.model.proofs.Laws.Places.{All, Each, change-at, map-at, replicate-each}
-use Rattle.model.proofs.Laws.Steps.{Step, KeptBy, next-step, step-frame, step-phys, Counts, step-counts}
+use Rattle.model.proofs.Laws.Steps.{Step, KeptBy, next-step, step-fixed, step-phys, Counts, step-counts}
 use Rattle.model.proofs.Laws.Tests.{cond-by, cond-both}
 use Rattle.model.proofs.Plain.Counting.{originate-range}
-use Rattle.model.proofs.Plain.Shelf.{SameFrame}
+use Rattle.model.proofs.Plain.Shelf.{SameFixed}
 use Rattle.model.proofs.Plain.Start.{Startable, start-done, fresh-phys}
 use Rattle.model.proofs.Plain.Writes.{set-length}
 use Rattle.model.proofs.Plain.Zone.{LegalTable}
@@ -275,16 +275,16 @@ module _ (s t : Shelf) (step : Step KeepsFit s t) where
 
   step-fits : Fits s → Fits t
   step-fits f =
-      let frame : SameFrame s t = step-frame KeepsFit s t step in
+      let fixed : SameFixed s t = step-fixed KeepsFit s t step in
       let counts : Counts s t = step-counts KeepsFit s t step in
       record {
-        number = rw (frame .number) (f .number);
+        number = rw (fixed .number) (f .number);
         phys-size = counts .size ∙ f .phys-size;
         phys = λ p below. phys-fit-on p .0 (f .phys p below);
-        table-size = rw (frame .table) (f .table-size);
-        table = rw (frame .table) (f .table);
-        identifier-size = rw (frame .identifier) (f .identifier-size);
-        identifier = rw (frame .identifier) (f .identifier);
+        table-size = rw (fixed .table) (f .table-size);
+        table = rw (fixed .table) (f .table);
+        identifier-size = rw (fixed .identifier) (f .identifier-size);
+        identifier = rw (fixed .identifier) (f .identifier);
         changes = moved-fits′ (s .changes) (t .changes) (counts .changes) (f .changes);
         expander3 = moved-fits′ (s .expander3) (t .expander3) (counts .expander3) (f .expander3);
         ses0 = moved-fits′ (s .ses0) (t .ses0) (counts .ses0) (f .ses0);
@@ -301,12 +301,12 @@ next-fits s o fit = step-fits s (next s o) (next-step KeepsFit s o (fit-kept o f
 pub next-sound : (s : Shelf) (o : Operation) → OperationFits o → Sound s → Sound (next s o)
 next-sound s o fit sound =
     let step : Step KeepsFit s (next s o) = next-step KeepsFit s o (fit-kept o fit) in
-    let frame : SameFrame s (next s o) = step-frame KeepsFit s (next s o) step in
+    let fixed : SameFixed s (next s o) = step-fixed KeepsFit s (next s o) step in
     record {
       fits = step-fits s (next s o) step (sound .fits);
-      number = rw (frame .number) (sound .number);
+      number = rw (fixed .number) (sound .number);
       groups = λ p below. rw (phys-fit-on s (next s o) step p .1) (sound .groups p below);
-      legal = rw (frame .table) (sound .legal);
+      legal = rw (fixed .table) (sound .legal);
       present = step-present s (next s o) step (sound .fits) (sound .present);
     }
 

@@ -22,7 +22,7 @@ use Rattle.model.specs.Reports.{eventTaken, event, linkChange, reducedFu
 use Rattle.model.specs.Request.{asked}
 use Rattle.model.specs.Results.{accepted, countRight, decide}
 use Rattle.model.specs.Runs.{Operation, Ask, Event, LinkChange, ReducedFunctionality, Ses, QueryReach, next, told}
-use Rattle.model.specs.Runs.{Answered, Shown}
+use Rattle.model.specs.Runs.{Told, Answered, Shown}
 use Rattle.model.specs.Server.{Handled, Sends, handle, lent, answer, served, lentAfter}
 use Rattle.model.specs.Shelf.{phyNumber, exists, phyAt, shelfWith, outcome}
 use Rattle.model.specs.Tests.{given, joinBelow}
@@ -127,8 +127,8 @@ module _ (g : ℕ) (s : Shelf) where
   -- the same report on both shelves
   looks-outcome : (taken : Taken) (new new′ : Shelf) → looks g new ≡ looks g new′
       → looks g (outcome taken (looks g s) new .shelf) ≡ looks g (outcome taken s new′ .shelf)
-  looks-outcome taken new new′ =
-      both-outcomes (λ x y. looks g x ≡ looks g y) taken (looks g s) s new new′ (looks-twice g s)
+  looks-outcome taken new new′ e =
+      both-outcomes (λ x y. looks g x ≡ looks g y) taken (looks g s) s new new′ (looks-twice g s) (λ done. e)
 
   -- how the shelf looks afterwards
   pub looks-next : (operation : Operation) → looks g (next (looks g s) operation) ≡ looks g (next s operation)
@@ -146,25 +146,21 @@ module _ (g : ℕ) (s : Shelf) where
       ap (λ t. shelfWith t (t .phys) (t .changes) (t .expander3) (originate (s .ses0))) (looks-twice g s)
   looks-next (QueryReach h) = looks-twice g s
 
-  -- what g is told
+  -- what g is told: the same of its own, and nothing of another's
+  same-own : (h : ℕ) (x y : Told) → (h ≡ g → x ≡ y) → cond (eqb h g) (x ∷ []) [] ≡ cond (eqb h g) (y ∷ []) []
+  same-own h x y same = go (eqb h g) refl
+    where
+      go : (b : Bool) → eqb h g ≡ b → cond b (x ∷ []) [] ≡ cond b (y ∷ []) []
+      go true e = ap (λ told. told ∷ []) (same (eqb-true h g e))
+      go false e = refl
+
   pub looks-told : (operation : Operation) → told g (looks g s) operation ≡ told g s operation
   unfolding told served lentAfter
-  looks-told (Ask h frame out) = go (eqb h g) refl
-    where
-      go : (b : Bool) → eqb h g ≡ b
-          → cond b (Answered (served (looks g s) h frame out .answer) (lentAfter (looks g s) h frame out) ∷ []) []
-          ≡ cond b (Answered (served s h frame out .answer) (lentAfter s h frame out) ∷ []) []
-      go true e =
-          rw (eqb-true h g e)
-          (ap (λ reply. Answered (answer reply) (lent out reply) ∷ []) (looks-reply frame (length out)))
-      go false e = refl
+  looks-told (Ask h frame out) =
+      same-own h _ _
+      (λ e. rw e (ap (λ reply. Answered (answer reply) (lent out reply)) (looks-reply frame (length out))))
   looks-told (Event p source amount) = refl
   looks-told (LinkChange p) = refl
   looks-told ReducedFunctionality = refl
   looks-told Ses = refl
-  looks-told (QueryReach h) = go (eqb h g) refl
-    where
-      go : (b : Bool) → eqb h g ≡ b
-          → cond b (Shown (reachQuery (looks g s) h) ∷ []) [] ≡ cond b (Shown (reachQuery s h) ∷ []) []
-      go true e = rw (eqb-true h g e) (ap (λ reach. Shown reach ∷ []) looks-query)
-      go false e = refl
+  looks-told (QueryReach h) = same-own h _ _ (λ e. rw e (ap Shown looks-query))

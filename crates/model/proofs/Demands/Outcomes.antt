@@ -2,47 +2,49 @@
 -- That there is at most one needs no proof: `start`, `served`, `lentAfter`, `event`, `linkChange`, the two notices and `reachQuery` are
 -- functions, with a value for all shelves, numbers and lists. That each of these values is one of those that document 01 names is shown
 -- here, with when it comes. Assumes nothing.
-use Prim.Native.Nat.{ℕ, _≤_}
+use Prim.Native.Nat.{ℕ, _≤_, _<_}
 use native.Mathlib.Nat.{eq-zero-or-pos}
 use native.Mathlib.Omega.{arith}
 use mathlib.Core.Path.{_≡_, refl, sym, _∙_}
 use mathlib.Core.Logic.{_⊎_, inl, inr}
-use mathlib.Core.Bool.{not, cond}
+use mathlib.Core.Bool.{Bool, true, false, not, cond}
 use mathlib.Core.List.{List, [], _∷_}
-use borrow.Author.Tests.{eq-eqb, ne-eqb}
-use lib.Dec.{eqb}
-use Rattle.model.specs.declared.House.{House}
-use Rattle.model.specs.declared.House.the-variants.{PhyNumber, PhyGroup, IllegalTable, SourceGroup, ShortBuffer}
-use Rattle.model.specs.declared.House.the-variants.{BadFrame, NoSuchPhy, EventSource, Amount}
+use borrow.Author.Tests.{ltb-true, ltb-false, eq-eqb, ne-eqb}
+use lib.Dec.{ltb, eqb}
+use Rattle.model.specs.declared.House.the-variants.{SourceGroup, NoSuchPhy}
 use Rattle.model.specs.declared.Outcome.{Outcome}
+use Rattle.model.specs.declared.Reach.the-variants.{Reaches, NoReach}
 use Rattle.model.specs.declared.Shelf.{Shelf}
 use Rattle.model.specs.declared.Taken.{Taken}
 use Rattle.model.specs.declared.Taken.the-variants.{Done, NotDone}
 use Rattle.model.specs.Bytes.{byte}
 use Rattle.model.specs.Counting.{originate, eventOn, changeOn}
 use Rattle.model.specs.House.{houseNumber, takenNumber, answerNumber}
-use Rattle.model.specs.Reports.{eventTaken, event, linkChange}
+use Rattle.model.specs.Reach.{reachSet, reachNumber, reachQuery}
+use Rattle.model.specs.Reports.{eventTaken, event, linkChange, reducedFunctionality, sesNotice}
 use Rattle.model.specs.Server.{served, lentAfter}
-use Rattle.model.specs.Shelf.{exists, phyAt, put, freshShelf, noShelf, outcome, startTaken, start}
+use Rattle.model.specs.Shelf.{exists, phyAt, put, putDevice, freshShelf, noShelf, outcome, startTaken, start}
 use Rattle.model.specs.Tests.{given}
 use Rattle.model.proofs.Demands.Refusals.{startRefusals, requestRefusals, phyRefusal, eventRefusals, start-gives}
 use Rattle.model.proofs.Demands.Refusals.{request-gives, event-gives, link-change-gives, request-refusal}
 use Rattle.model.proofs.Demands.Results.{failures, NotRefused, result-drawn, Failed, failed-result, Granted}
 use Rattle.model.proofs.Demands.Results.{granted-result}
+use Rattle.model.proofs.Laws.Checks.{house-some}
 use Rattle.model.proofs.Laws.Drawn.{Draws}
 use Rattle.model.proofs.Laws.Lowest.{Applies, Lowest, Gives}
+use Rattle.model.proofs.Plain.Reach.{reach-answered, reach-refused}
 
 -- ---- A request is refused, or it fails, or it is accepted.
 
 pub data RequestEnds (s : Shelf) (g : ℕ) (frame out : List ℕ) : Type 0 where
   -- by house refusal k, the lowest that applies; shelf and buffer stay
-  Refused : (k : ℕ) → 1 ≤ k → answerNumber (served s g frame out .answer) ≡ k → Lowest (requestRefusals g frame out) 4 k
+  IsRefused : (k : ℕ) → 1 ≤ k → answerNumber (served s g frame out .answer) ≡ k → Lowest (requestRefusals g frame out) 4 k
       → served s g frame out .shelf ≡ s → lentAfter s g frame out ≡ out → RequestEnds s g frame out
   -- with the code of its first failure; the shelf stays
-  Fails : (code : ℕ) → 1 ≤ code → NotRefused s g frame out → Draws (failures s g frame) code
+  HasFailed : (code : ℕ) → 1 ≤ code → NotRefused s g frame out → Draws (failures s g frame) code
       → Failed s g frame out code → RequestEnds s g frame out
   -- where nothing fails, with its response and its effect
-  Accepts : NotRefused s g frame out → Draws (failures s g frame) 0x00 → Granted s g frame out → RequestEnds s g frame out
+  IsAccepted : NotRefused s g frame out → Draws (failures s g frame) 0x00 → Granted s g frame out → RequestEnds s g frame out
 
 pub every-request : (s : Shelf) (g : ℕ) (frame out : List ℕ) → RequestEnds s g frame out
 every-request s g frame out = refusal (eq-zero-or-pos (answerNumber (served s g frame out .answer)))
@@ -52,9 +54,9 @@ every-request s g frame out = refusal (eq-zero-or-pos (answerNumber (served s g 
 
     result : NotRefused s g frame out → (code ≡ 0) ⊎ (1 ≤ code) → RequestEnds s g frame out
     result answered (inl e) =
-        Accepts answered (result-drawn s g frame out answered 0x00 .0 e) (granted-result s g frame out answered e)
+        IsAccepted answered (result-drawn s g frame out answered 0x00 .0 e) (granted-result s g frame out answered e)
     result answered (inr some) =
-        Fails code some answered (result-drawn s g frame out answered code .0 refl)
+        HasFailed code some answered (result-drawn s g frame out answered code .0 refl)
         (failed-result s g frame out code answered refl some)
 
     refusal : (answerNumber (served s g frame out .answer) ≡ 0) ⊎ (1 ≤ answerNumber (served s g frame out .answer))
@@ -62,26 +64,26 @@ every-request s g frame out = refusal (eq-zero-or-pos (answerNumber (served s g 
     refusal (inl answered) = result answered (eq-zero-or-pos code)
     refusal (inr some) =
         let (shelf, buffer) = request-refusal s g frame out some in
-        Refused (answerNumber (served s g frame out .answer)) some refl
+        IsRefused (answerNumber (served s g frame out .answer)) some refl
         (request-gives s g frame out .each (answerNumber (served s g frame out .answer)) .0 (some, refl))
         shelf
         buffer
 
 -- No two of them come together: which it is, is settled by what was told and by byte 2 of the buffer.
 abbrev pub endKind : {s : Shelf} {g : ℕ} {frame out : List ℕ} → RequestEnds s g frame out → ℕ
-endKind (Refused k from told lowest shelf buffer) = 0
-endKind (Fails code some answered drawn failed) = 1
-endKind (Accepts answered drawn granted) = 2
+endKind (IsRefused k from told lowest shelf buffer) = 0
+endKind (HasFailed code some answered drawn failed) = 1
+endKind (IsAccepted answered drawn granted) = 2
 
 kind-told : (s : Shelf) (g : ℕ) (frame out : List ℕ) (a : RequestEnds s g frame out)
     → endKind a
     ≡ cond (eqb (answerNumber (served s g frame out .answer)) 0) (cond (eqb (byte (lentAfter s g frame out) 2) 0x00) 2 1) 0
-kind-told s g frame out (Refused k from told lowest shelf buffer) =
+kind-told s g frame out (IsRefused k from told lowest shelf buffer) =
     rw (ne-eqb (answerNumber (served s g frame out .answer)) 0 (λ e. omega arith))
-kind-told s g frame out (Fails code some answered drawn failed) =
+kind-told s g frame out (HasFailed code some answered drawn failed) =
     let is : byte (lentAfter s g frame out) 2 ≡ code = result-drawn s g frame out answered code .1 drawn in
     rw (eq-eqb (answerNumber (served s g frame out .answer)) 0 answered, ne-eqb (byte (lentAfter s g frame out) 2) 0x00 (λ e. omega arith))
-kind-told s g frame out (Accepts answered drawn granted) =
+kind-told s g frame out (IsAccepted answered drawn granted) =
     rw (
       eq-eqb (answerNumber (served s g frame out .answer)) 0 answered,
       eq-eqb (byte (lentAfter s g frame out) 2) 0x00 (result-drawn s g frame out answered 0x00 .1 drawn),
@@ -97,17 +99,6 @@ pub data TakenEnds (conditions : List (Type 0)) (n : ℕ) (old new : Shelf) (o :
       → TakenEnds conditions n old new o
   TakenDone : o .taken ≡ Done → ((k : ℕ) → Applies conditions n k → ⊥) → o .shelf ≡ new
       → TakenEnds conditions n old new o
-
-house-some : (house : House) → 1 ≤ houseNumber house
-house-some PhyNumber = omega arith
-house-some PhyGroup = omega arith
-house-some IllegalTable = omega arith
-house-some SourceGroup = omega arith
-house-some ShortBuffer = omega arith
-house-some BadFrame = omega arith
-house-some NoSuchPhy = omega arith
-house-some EventSource = omega arith
-house-some Amount = omega arith
 
 every-taken : (conditions : List (Type 0)) (n : ℕ) (taken : Taken) (old new : Shelf)
     → Gives conditions n (takenNumber (outcome taken old new .taken)) → TakenEnds conditions n old new (outcome taken old new)
@@ -134,3 +125,22 @@ pub every-link-change : (s : Shelf) (p : ℕ)
 unfolding linkChange
 every-link-change s p =
     every-taken (phyRefusal s p ∷ []) 7 (given (not (exists s p)) (NotDone NoSuchPhy) Done) s _ (link-change-gives s p)
+
+-- ---- A reach query is refused with H4, or answered with both numbers; a device notice is always done.
+
+pub every-query : (s : Shelf) (g : ℕ)
+    → ((31 < g) × (reachQuery s g ≡ NoReach SourceGroup))
+    ⊎ ((g ≤ 31) × (reachQuery s g ≡ Reaches (reachSet s g) (reachNumber s g)))
+every-query s g = go (ltb 31 g) refl
+  where
+    go : (above : Bool) → ltb 31 g ≡ above
+        → ((31 < g) × (reachQuery s g ≡ NoReach SourceGroup))
+        ⊎ ((g ≤ 31) × (reachQuery s g ≡ Reaches (reachSet s g) (reachNumber s g)))
+    go true e = let h = ltb-true 31 g e in inl (h, reach-refused s g h)
+    go false e = let h = ltb-false 31 g e in inr (h, reach-answered s g h)
+
+pub every-notice : (s : Shelf)
+    → (reducedFunctionality s ≡ putDevice s (originate (s .expander3)) (s .ses0))
+    × (sesNotice s ≡ putDevice s (s .expander3) (originate (s .ses0)))
+unfolding reducedFunctionality sesNotice
+every-notice s = (refl, refl)

@@ -7,27 +7,27 @@ use mathlib.Core.Logic.{_↔_, _⊎_, Iff·rfl, Iff·trans}
 use mathlib.Core.Bool.{Bool, true, false, not, _||_}
 use mathlib.Core.List.{List, [], _∷_, _++_, List·Memᴰ}
 use borrow.Author.Tests.{eqb-true, eq-eqb, ne-eqb}
-use lib.Dec.{T, leb, ltb, eqb}
+use lib.Dec.{T, leb, eqb}
 use lib.ListN.{length, drop, List·getD-append}
 use Rattle.model.specs.declared.Answer.the-variants.{Response}
 use Rattle.model.specs.declared.FunctionResult.the-variants.{UnknownSmpFunction, InvalidRequestFrameLength}
-use Rattle.model.specs.declared.House.the-variants.{SourceGroup, ShortBuffer, BadFrame}
 use Rattle.model.specs.declared.Request.{Request}
 use Rattle.model.specs.declared.Shelf.{Shelf}
 use Rattle.model.specs.Bytes.{byte, word}
 use Rattle.model.specs.House.{answerNumber}
 use Rattle.model.specs.Reach.{reaches}
 use Rattle.model.specs.Reply.{failed, respond}
-use Rattle.model.specs.Request.{badFrame, functionOf, asked, known, lengthRight, descriptorSource, firstUnsupported}
+use Rattle.model.specs.Request.{functionOf, asked, known, lengthRight, descriptorSource, firstUnsupported}
 use Rattle.model.specs.Results.{resultCode, accepted, countRight, knownOperation, decide}
-use Rattle.model.specs.Server.{Handled, Sends, refuse, answer, lent, handle, served, lentAfter}
+use Rattle.model.specs.Server.{Sends, answer, lent, handle, served, lentAfter}
 use Rattle.model.specs.Shelf.{exists}
 use Rattle.model.specs.Sources.{supported}
-use Rattle.model.specs.Tests.{check, given, oneOf}
+use Rattle.model.specs.Tests.{check, oneOf}
 use Rattle.model.specs.Writes.{effect}
 use Rattle.model.proofs.Demands.Frames.{Framed, requestFunction, respond-framed}
+use Rattle.model.proofs.Laws.Checks.{house-some}
 use Rattle.model.proofs.Laws.Drawn.{Draws, firstFailure, Tell, nothing, tell, draws-first, AllPass, passes-all}
-use Rattle.model.proofs.Laws.Handled.{verdict, granted, concluded, handled, concluded-all}
+use Rattle.model.proofs.Laws.Handled.{verdict, granted, concluded, both-handled, concluded-all}
 use Rattle.model.proofs.Laws.Tests.{fails-iff, fails-under-iff, leb-iff, eqb-iff, oneOf-iff, check-map}
 use Rattle.model.proofs.Plain.Request.{RightLength, known-iff, by-function, length-right, allowed-iff}
 use Rattle.model.proofs.Plain.Request.{none-unsupported}
@@ -96,9 +96,9 @@ pub verdict-checks : (s : Shelf) (g : ℕ) (frame : List ℕ)
 unfolding verdict decide known
 verdict-checks s g frame = go (known (functionOf frame)) refl
   where
-    -- a frame that has the function f, and asks this
-    Judged : ℕ → Request → Type 0
-    Judged f request =
+    -- of a frame that has the function f, and asks this
+    Agrees : ℕ → Request → Type 0
+    Agrees f request =
         resultCode
         (check (known f) UnknownSmpFunction
         (check (lengthRight frame) InvalidRequestFrameLength
@@ -108,7 +108,7 @@ verdict-checks s g frame = go (known (functionOf frame)) refl
     go : (b : Bool) → known (functionOf frame) ≡ b → resultCode (verdict s g frame) ≡ firstFailure (checks s g frame)
     go false e = rw e
     go true e =
-        by-function frame Judged (rw e tt)
+        by-function frame Agrees (rw e tt)
         (simp (check-map resultCode))
         (simp (check-map resultCode))
         (simp (check-map resultCode))
@@ -171,19 +171,10 @@ NotRefused s g frame out = answerNumber (served s g frame out .answer) ≡ 0
 not-refused : (s : Shelf) (g : ℕ) (frame out : List ℕ) → NotRefused s g frame out
     → handle s g frame (length out) ≡ concluded s g frame
 unfolding served
-not-refused s g frame out = rw (handled s g frame (length out)) (go (ltb 31 g) (ltb (length out) 1028) (badFrame frame))
-  where
-    go : (a b c : Bool)
-        → (let h : Handled =
-        given a (refuse s SourceGroup)
-        (given b (refuse s ShortBuffer)
-        (given c (refuse s BadFrame)
-        (concluded s g frame))) in
-        answerNumber (answer (h .reply)) ≡ 0 → h ≡ concluded s g frame)
-    go true b c e = absurd (omega arith)
-    go false true c e = absurd (omega arith)
-    go false false true e = absurd (omega arith)
-    go false false false e = refl
+not-refused s g frame out =
+    both-handled (λ x y. answerNumber (answer (x .reply)) ≡ 0 → x ≡ concluded s g frame) s s g frame (length out)
+    (λ house e. absurd (omega (arith, house-some house)))
+    (λ e. refl)
 
 -- byte 2 has the result
 pub result-byte : (s : Shelf) (g : ℕ) (frame out : List ℕ) → NotRefused s g frame out

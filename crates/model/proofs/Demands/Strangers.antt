@@ -2,11 +2,12 @@
 -- the shelf, and its answer tells nothing of what was sent; no request changes a phy out of its source's reach; a report changes its own
 -- phy alone. Assumes nothing.
 use Prim.Native.Nat.{ℕ, _≤_}
+use native.Mathlib.Nat.{eq-zero-or-pos}
 use native.Mathlib.Omega.{arith}
-use mathlib.Core.Path.{_≡_, refl, sym, _∙_}
+use mathlib.Core.Path.{_≡_, refl, _∙_}
+use mathlib.Core.Logic.{⊎-elim}
 use mathlib.Core.Bool.{Bool, true, false, cond, not, _||_}
-use mathlib.Core.List.{List, [], _∷_}
-use borrow.Author.Tests.{eqb-true}
+use mathlib.Core.List.{List, [], _∷_, List·Memᴰ·head, List·Memᴰ·tail}
 use lib.Dec.{T}
 use lib.ListN.{length}
 use Rattle.model.specs.declared.House.the-variants.{NoSuchPhy}
@@ -16,6 +17,7 @@ use Rattle.model.specs.declared.Request.the-variants.{ReportPhyErrorLog,
 use Rattle.model.specs.declared.Shelf.{Shelf}
 use Rattle.model.specs.declared.Taken.the-variants.{Done, NotDone}
 use Rattle.model.specs.Bytes.{byte, word}
+use Rattle.model.specs.House.{answerNumber}
 use Rattle.model.specs.Reach.{reaches}
 use Rattle.model.specs.Reports.{eventTaken, event, linkChange, reducedFunctionality, sesNotice}
 use Rattle.model.specs.Request.{functionOf, known, lengthRight, asked}
@@ -24,6 +26,7 @@ use Rattle.model.specs.Server.{served, lentAfter}
 use Rattle.model.specs.Shelf.{exists, phyAt}
 use Rattle.model.specs.Tests.{check, given, oneOf}
 use Rattle.model.specs.Writes.{effect}
+use Rattle.model.proofs.Demands.Refusals.{request-refusal}
 use Rattle.model.proofs.Demands.Results.{Of, NotRefused, verdict-checks, result-byte, Failed, failed-result}
 use Rattle.model.proofs.Laws.Checks.{every-outcome, write-reached}
 use Rattle.model.proofs.Laws.Handled.{verdict, handled-all, accepted-decided}
@@ -79,27 +82,27 @@ stranger-answered s g frame out answered strange =
 
 -- refused or answered, it leaves the shelf as it was
 pub stranger-stays : (s : Shelf) (g : ℕ) (frame out : List ℕ) → Strange s g frame → served s g frame out .shelf ≡ s
-unfolding served
 stranger-stays s g frame out strange =
-    handled-all (λ h. h .shelf ≡ s) s g frame (length out) (λ house. refl) refl
-    (λ e.
-    let none : codeFor s frame ≡ 0x00 =
-    sym (stranger-verdict s g frame strange) ∙ eqb-true (resultCode (verdict s g frame)) 0x00 e in
-    absurd
-    (omega
-    (arith, code-some (functionOf frame) (lengthRight frame) (countRight s (word frame 4)) (exists s (byte frame 9)))))
+    ⊎-elim (λ answered. stranger-answered s g frame out answered strange .stays)
+    (λ refused. request-refusal s g frame out refused .0)
+    (eq-zero-or-pos (answerNumber (served s g frame out .answer)))
 
 -- So two strangers' requests, whatever else differs in frames, shelves and sources, are answered alike.
 pub strangers-learn-nothing : (s t : Shelf) (g h : ℕ) (frame frame′ out : List ℕ)
     → NotRefused s g frame out → NotRefused t h frame′ out → Strange s g frame → Strange t h frame′
     → functionOf frame ≡ functionOf frame′ → lengthRight frame ≡ lengthRight frame′
-    → countRight s (word frame 4) ≡ countRight t (word frame′ 4)
+    → (Of (0x91 ∷ 0x93 ∷ []) frame → countRight s (word frame 4) ≡ countRight t (word frame′ 4))
     → exists s (byte frame 9) ≡ exists t (byte frame′ 9)
     → (served s g frame out .answer ≡ served t h frame′ out .answer) × (lentAfter s g frame out ≡ lentAfter t h frame′ out)
 strangers-learn-nothing s t g h frame frame′ out answered answered′ strange strange′ function lengths counts there =
     let one : Failed s g frame out (codeFor s frame) = stranger-answered s g frame out answered strange in
     let other : Failed t h frame′ out (codeFor t frame′) = stranger-answered t h frame′ out answered′ strange′ in
-    let code : codeFor s frame ≡ codeFor t frame′ = rw (function, lengths, counts, there) in
+    let code : codeFor s frame ≡ codeFor t frame′ =
+    by-each (codeFor s frame ≡ codeFor t frame′) (functionOf frame) (0x11 ∷ 0x14 ∷ 0x91 ∷ 0x93 ∷ []) (strange .function)
+    (λ e. rw (← function, e, lengths, there))
+    (λ e. rw (← function, e, lengths, there))
+    (λ e. rw (← function, counts (List·Memᴰ·head e), lengths, there))
+    (λ e. rw (← function, counts (List·Memᴰ·tail (List·Memᴰ·head e)), lengths, there)) in
     (cc, cc (one .left, other .left, code, function))
 
 -- ---- No request of a group changes any number of a phy that the group does not reach.
@@ -129,12 +132,12 @@ request-elsewhere s g frame out q unreached =
 pub event-only : (s : Shelf) (p source amount : ℕ) → OnlyPhy s p (event s p source amount .shelf)
 unfolding event
 event-only s p source amount =
-    every-outcome (OnlyPhy s p) (eventTaken s p source amount) s _ (same-only s p) (put-only s p _ _)
+    every-outcome (OnlyPhy s p) (eventTaken s p source amount) s _ (same-only s p) (λ done. put-only s p _ _)
 
 pub link-change-only : (s : Shelf) (p : ℕ) → OnlyPhy s p (linkChange s p .shelf)
 unfolding linkChange
 link-change-only s p =
-    every-outcome (OnlyPhy s p) (given (not (exists s p)) (NotDone NoSuchPhy) Done) s _ (same-only s p) (put-only s p _ _)
+    every-outcome (OnlyPhy s p) (given (not (exists s p)) (NotDone NoSuchPhy) Done) s _ (same-only s p) (λ done. put-only s p _ _)
 
 pub notices-elsewhere : (s : Shelf) → (reducedFunctionality s .phys ≡ s .phys) × (sesNotice s .phys ≡ s .phys)
 unfolding reducedFunctionality sesNotice

@@ -85,7 +85,8 @@ module _ (g : ℕ) (s : Shelf) where
       (λ e. unseen-effect h frame (crossed-request-iff g s h frame out .0 t))
   crossed-unseen (Event p source amount) t =
       every-outcome (λ t. looks g t ≡ looks g s) (eventTaken s p source amount) s _ refl
-      (looks-stays g s p (eventOn source amount) (event-inner source amount)
+      (λ done.
+      looks-stays g s p (eventOn source amount) (event-inner source amount)
       (is-false (reaches s g p) (crossed-event-iff g s p source amount .0 t .1)))
   crossed-unseen (LinkChange p) t = absurd t
   crossed-unseen ReducedFunctionality t = absurd t
@@ -108,8 +109,8 @@ pub crossed-zones : (g : ℕ) (s t : Shelf) (operation : Operation) → SameZone
     → crossedOut g t operation ≡ crossedOut g s operation
 unfolding crossedOut aboutPhy linkResetOrDisable
 crossed-zones g s t (Ask h frame out) same =
-    rw (same .frame .number, same .frame .table, same .groups (byte frame 9))
-crossed-zones g s t (Event p source amount) same = rw (same .frame .number, same .frame .table, same .groups p)
+    rw (same .fixed .number, same .fixed .table, same .groups (byte frame 9))
+crossed-zones g s t (Event p source amount) same = rw (same .fixed .number, same .fixed .table, same .groups p)
 crossed-zones g s t (LinkChange p) same = refl
 crossed-zones g s t ReducedFunctionality same = refl
 crossed-zones g s t Ses same = refl

@@ -16,7 +16,6 @@ use Rattle.model.specs.Server.{served, lentAfter}
 use Rattle.model.specs.Shelf.{exists}
 use Rattle.model.specs.Writes.{effect}
 use Rattle.model.proofs.Demands.Effects.{Controlled, controlled-effect, Configured, configured-effect}
-use Rattle.model.proofs.Demands.Invariant.{Fits}
 use Rattle.model.proofs.Demands.Results.{Of, SourcesAllowed, NotRefused, checks, verdict-accepted, result-byte}
 use Rattle.model.proofs.Demands.Results.{sources-iff, failed-result, granted-result}
 use Rattle.model.proofs.Laws.Drawn.{AllPass}
@@ -141,10 +140,10 @@ full-or-none s g frame out {Full = Full} answered passes full =
     positive n h = omega arith
 
 -- byte 9 names one of the shelf's 24 places
-phy-placed : (s : Shelf) (p : ℕ) → Fits s → T (exists s p) → p < length (s .phys)
+phy-placed : (s : Shelf) (p : ℕ) → length (s .phys) ≡ 24 → T (exists s p) → p < length (s .phys)
 phy-placed s p fits there = omega (arith, exists-iff s p .0 there)
 
-pub control-write : (s : Shelf) (g : ℕ) (frame out : List ℕ) → Fits s → NotRefused s g frame out → functionOf frame ≡ 0x91
+pub control-write : (s : Shelf) (g : ℕ) (frame out : List ℕ) → length (s .phys) ≡ 24 → NotRefused s g frame out → functionOf frame ≡ 0x91
     → FullOrNone (ControlPasses s g frame) (Controlled s (byte frame 9) (byte frame 10)) s (served s g frame out .shelf)
 control-write s g frame out fits answered e =
     full-or-none s g frame out answered (control-accepted s g frame out answered e)
@@ -152,7 +151,7 @@ control-write s g frame out fits answered e =
     rw (asked-91 frame e)
     (controlled-effect s frame (word frame 4) (byte frame 9) (byte frame 10) (phy-placed s (byte frame 9) fits (w .phy))))
 
-pub configure-write : (s : Shelf) (g : ℕ) (frame out : List ℕ) → Fits s → NotRefused s g frame out → functionOf frame ≡ 0x93
+pub configure-write : (s : Shelf) (g : ℕ) (frame out : List ℕ) → length (s .phys) ≡ 24 → NotRefused s g frame out → functionOf frame ≡ 0x93
     → FullOrNone (ConfigurePasses s g frame) (Configured s (byte frame 9) frame) s (served s g frame out .shelf)
 configure-write s g frame out fits answered e =
     full-or-none s g frame out answered (configure-accepted s g frame out answered e)

@@ -7,13 +7,15 @@ use mathlib.Core.Bool.{Bool, true, not, false≢true}
 use lib.Dec.{T, T-not, not-T}
 use Rattle.model.specs.declared.FunctionResult.{FunctionResult}
 use Rattle.model.specs.declared.House.{House}
+use Rattle.model.specs.declared.House.the-variants.{PhyNumber, PhyGroup, IllegalTable, SourceGroup, ShortBuffer}
+use Rattle.model.specs.declared.House.the-variants.{BadFrame, NoSuchPhy, EventSource, Amount}
 use Rattle.model.specs.declared.Shelf.{Shelf}
 use Rattle.model.specs.declared.Taken.{Taken}
 use Rattle.model.specs.declared.Taken.the-variants.{Done, NotDone}
-use Rattle.model.specs.House.{takenNumber}
+use Rattle.model.specs.House.{houseNumber, takenNumber}
 use Rattle.model.specs.Reach.{reaches}
 use Rattle.model.specs.Results.{accepted, checkRead, checkWrite}
-use Rattle.model.specs.Shelf.{outcome}
+use Rattle.model.specs.Shelf.{exists, outcome}
 use Rattle.model.specs.Tests.{given}
 use Rattle.model.proofs.Laws.Tests.{check-iff, not-not-iff, not-false, check-same, check-map}
 
@@ -48,18 +50,30 @@ none-given-iff a b c h₁ h₂ h₃ f g h = (
 pub unless-iff : (a : Bool) {A : Type 0} → T a ↔ A → (T (not a) → ⊥) ↔ A
 unless-iff a f = Iff·trans (not-not-iff a) f
 
+-- every house refusal has a number from 1 on
+pub house-some : (house : House) → 1 ≤ houseNumber house
+house-some PhyNumber = omega arith
+house-some PhyGroup = omega arith
+house-some IllegalTable = omega arith
+house-some SourceGroup = omega arith
+house-some ShortBuffer = omega arith
+house-some BadFrame = omega arith
+house-some NoSuchPhy = omega arith
+house-some EventSource = omega arith
+house-some Amount = omega arith
+
 -- what is told of an outcome is what was judged
 pub outcome-taken : (taken : Taken) (old new : Shelf) → outcome taken old new .taken ≡ taken
 outcome-taken Done old new = refl
 outcome-taken (NotDone house) old new = refl
 
--- what holds of the old shelf and of the new one holds of the shelf afterwards; of two reports at once, and of one
-pub both-outcomes : (P : Shelf → Shelf → Type 0) (taken : Taken) (s t new new′ : Shelf) → P s t → P new new′
-    → P (outcome taken s new .shelf) (outcome taken t new′ .shelf)
-both-outcomes P Done s t new new′ old done = done
+-- what holds of the old shelf and, where it was done, of the new one holds of the shelf afterwards; of two reports at once, and of one
+pub both-outcomes : (P : Shelf → Shelf → Type 0) (taken : Taken) (s t new new′ : Shelf) → P s t
+    → (taken ≡ Done → P new new′) → P (outcome taken s new .shelf) (outcome taken t new′ .shelf)
+both-outcomes P Done s t new new′ old done = done refl
 both-outcomes P (NotDone house) s t new new′ old done = old
 
-pub every-outcome : (P : Shelf → Type 0) (taken : Taken) (s new : Shelf) → P s → P new
+pub every-outcome : (P : Shelf → Type 0) (taken : Taken) (s new : Shelf) → P s → (taken ≡ Done → P new)
     → P (outcome taken s new .shelf)
 every-outcome P taken s new = both-outcomes (λ x y. P x) taken s s new new
 
@@ -68,13 +82,15 @@ pub outcome-stays : (taken : Taken) (old new : Shelf) → 1 ≤ takenNumber take
 outcome-stays Done old new refused = absurd (omega arith)
 outcome-stays (NotDone house) old new refused = refl
 
--- ---- The phy of a request that is accepted is reached, wherever the zone's check stands among the others.
+-- ---- The phy of a request that is accepted exists and is reached, wherever these checks stand among the others.
 
 pub read-reached : (s : Shelf) (g p : ℕ) → accepted (checkRead s g p) ≡ true → reaches s g p ≡ true
 read-reached s g p e =
     not-false (reaches s g p) (λ out. false≢true (simp (check-map accepted, out, check-same) at e))
 
-pub write-reached : (s : Shelf) (g expected p : ℕ) (contents : FunctionResult)
-    → accepted (checkWrite s g expected p contents) ≡ true → reaches s g p ≡ true
-write-reached s g expected p contents e =
-    not-false (reaches s g p) (λ out. false≢true (simp (check-map accepted, out, check-same) at e))
+module _ (s : Shelf) (g expected p : ℕ) (contents : FunctionResult) where
+  pub write-reached : accepted (checkWrite s g expected p contents) ≡ true → reaches s g p ≡ true
+  write-reached e = not-false (reaches s g p) (λ out. false≢true (simp (check-map accepted, out, check-same) at e))
+
+  pub write-exists : accepted (checkWrite s g expected p contents) ≡ true → exists s p ≡ true
+  write-exists e = not-false (exists s p) (λ out. false≢true (simp (check-map accepted, out, check-same) at e))

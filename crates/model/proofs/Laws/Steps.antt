@@ -4,6 +4,7 @@ use Prim.Native.Nat.{ℕ}
 use mathlib.Core.Path.{_≡_, refl, _∙_}
 use mathlib.Core.Bool.{Bool, true, false, not}
 use mathlib.Core.List.{List}
+use lib.Dec.{T}
 use lib.ListN.{length, length-set}
 use Rattle.model.specs.declared.House.the-variants.{NoSuchPhy}
 use Rattle.model.specs.declared.Phy.{Phy}
@@ -15,20 +16,23 @@ use Rattle.model.specs.declared.Taken.the-variants.{Done, NotDone}
 use Rattle.model.specs.Counting.{eventOn, changeOn}
 use Rattle.model.specs.Reports.{eventTaken, event, linkChange, reducedFunctionality, sesNotice}
 use Rattle.model.specs.Request.{asked}
+use Rattle.model.specs.Results.{accepted, decide}
 use Rattle.model.specs.Runs.{Operation, Ask, Event, LinkChange, ReducedFunctionality, Ses, QueryReach, next}
 use Rattle.model.specs.Shelf.{noPhy, exists, phyAt, put, putDevice}
 use Rattle.model.specs.Tests.{given}
 use Rattle.model.specs.Writes.{controlled, controlChanges, configured, effect}
-use Rattle.model.proofs.Laws.Checks.{every-outcome}
-use Rattle.model.proofs.Laws.Handled.{handled-all}
+use Rattle.model.proofs.Laws.Checks.{given-iff, every-outcome, write-exists}
+use Rattle.model.proofs.Laws.Handled.{handled-all, accepted-decided}
 use Rattle.model.proofs.Laws.PhyChanges.{moved, event-inner, change-inner, configured-inner, controlled-inner}
 use Rattle.model.proofs.Laws.Places.{change-at}
-use Rattle.model.proofs.Plain.Shelf.{SameFrame, same-frame, put-frame, device-frame}
+use Rattle.model.proofs.Laws.Tests.{not-not-iff}
+use Rattle.model.proofs.Plain.Reports.{event-done}
+use Rattle.model.proofs.Plain.Shelf.{SameFixed, same-fixed, put-fixed, device-fixed}
 
 -- From s to t. A change of a phy is what becomes of the phy, and whether that moves the change count; each keeps what is asked.
 pub data Step (Keeps : (Phy → Phy) → (Phy → Bool) → Type 0) (s t : Shelf) : Type 0 where
   Stays : t ≡ s → Step Keeps s t
-  Moves : (p : ℕ) (f : Phy → Phy) (moves : Phy → Bool) → Keeps f moves
+  Moves : (p : ℕ) (f : Phy → Phy) (moves : Phy → Bool) → T (exists s p) → Keeps f moves
       → t ≡ put s p (f (phyAt s p)) (moved (moves (phyAt s p)) (s .changes)) → Step Keeps s t
   Notes : (a b : Bool) → t ≡ putDevice s (moved a (s .expander3)) (moved b (s .ses0)) → Step Keeps s t
 
@@ -45,45 +49,47 @@ KeptBy Keeps (QueryReach g) = Unit {0}
 
 module _ (Keeps : (Phy → Phy) → (Phy → Bool) → Type 0) (s : Shelf) where
   effect-step : (g : ℕ) (frame out : List ℕ) (request : Request) → KeptBy Keeps (Ask g frame out)
-      → Step Keeps s (effect s frame request)
-  unfolding effect
-  effect-step g frame out ReportGeneral keeps = Stays refl
-  effect-step g frame out ReportManufacturer keeps = Stays refl
-  effect-step g frame out (ReportBroadcast kind) keeps = Stays refl
-  effect-step g frame out (ReportPhyErrorLog p) keeps = Stays refl
-  effect-step g frame out (ReportPhyEvent p) keeps = Stays refl
-  effect-step g frame out (PhyControl expected p operation) keeps =
-      Moves p (controlled operation) (controlChanges operation) (keeps .0 operation) refl
-  effect-step g frame out (ConfigurePhyEvent expected clear p d) keeps =
-      Moves p (configured frame d clear) (λ x. false) (keeps .1 d clear) refl
+      → accepted (decide s g frame request) ≡ true → Step Keeps s (effect s frame request)
+  unfolding effect decide
+  effect-step g frame out ReportGeneral keeps e = Stays refl
+  effect-step g frame out ReportManufacturer keeps e = Stays refl
+  effect-step g frame out (ReportBroadcast kind) keeps e = Stays refl
+  effect-step g frame out (ReportPhyErrorLog p) keeps e = Stays refl
+  effect-step g frame out (ReportPhyEvent p) keeps e = Stays refl
+  effect-step g frame out (PhyControl expected p operation) keeps e =
+      Moves p (controlled operation) (controlChanges operation) (rw (write-exists s g expected p _ e) tt) (keeps .0 operation) refl
+  effect-step g frame out (ConfigurePhyEvent expected clear p d) keeps e =
+      Moves p (configured frame d clear) (λ x. false) (rw (write-exists s g expected p _ e) tt) (keeps .1 d clear) refl
 
   pub next-step : (operation : Operation) → KeptBy Keeps operation → Step Keeps s (next s operation)
   unfolding next event linkChange reducedFunctionality sesNotice
   next-step (Ask g frame out) keeps =
       handled-all (λ h. Step Keeps s (h .shelf)) s g frame (length out) (λ house. Stays refl) (Stays refl)
-      (λ e. effect-step g frame out (asked frame) keeps)
+      (λ e. effect-step g frame out (asked frame) keeps (accepted-decided s g frame e .2))
   next-step (Event p source amount) keeps =
-      every-outcome (Step Keeps s) (eventTaken s p source amount) s _ (Stays refl) (Moves p (eventOn source amount) (λ x. false) keeps refl)
+      every-outcome (Step Keeps s) (eventTaken s p source amount) s _ (Stays refl)
+      (λ done. Moves p (eventOn source amount) (λ x. false) (event-done s p source amount .0 done .phy-exists) keeps refl)
   next-step (LinkChange p) keeps =
       every-outcome (Step Keeps s) (given (not (exists s p)) (NotDone NoSuchPhy) Done) s _ (Stays refl)
-      (Moves p (λ x. changeOn (x .enabled) x) (λ x. true) keeps refl)
+      (λ done.
+      Moves p (λ x. changeOn (x .enabled) x) (λ x. true) (not-not-iff (exists s p) .0 (given-iff (not (exists s p)) NoSuchPhy Done .0 done .0)) keeps refl)
   next-step ReducedFunctionality keeps = Notes true false refl
   next-step Ses keeps = Notes false true refl
   next-step (QueryReach g) keeps = Stays refl
 
 -- What no step changes: the phy number, the table and the identifier.
-pub step-frame : (Keeps : (Phy → Phy) → (Phy → Bool) → Type 0) (s t : Shelf) → Step Keeps s t → SameFrame s t
-step-frame Keeps s t (Stays e) = rw e (same-frame s)
-step-frame Keeps s t (Moves p f moves keeps e) =
-    rw e (put-frame s p (f (phyAt s p)) (moved (moves (phyAt s p)) (s .changes)))
-step-frame Keeps s t (Notes a b e) = rw e (device-frame s (moved a (s .expander3)) (moved b (s .ses0)))
+pub step-fixed : (Keeps : (Phy → Phy) → (Phy → Bool) → Type 0) (s t : Shelf) → Step Keeps s t → SameFixed s t
+step-fixed Keeps s t (Stays e) = rw e (same-fixed s)
+step-fixed Keeps s t (Moves p f moves there keeps e) =
+    rw e (put-fixed s p (f (phyAt s p)) (moved (moves (phyAt s p)) (s .changes)))
+step-fixed Keeps s t (Notes a b e) = rw e (device-fixed s (moved a (s .expander3)) (moved b (s .ses0)))
 
 -- What holds between a phy and itself, and still after each change, holds between each phy before the step and after it.
 pub step-phys : (Keeps : (Phy → Phy) → (Phy → Bool) → Type 0) (R : Phy → Phy → Type 0) → ((x : Phy) → R x x)
     → ((f : Phy → Phy) (moves : Phy → Bool) → Keeps f moves → (x y : Phy) → R x y → R x (f y))
     → (s t : Shelf) → Step Keeps s t → (q : ℕ) → R (phyAt s q) (phyAt t q)
 step-phys Keeps R same on s t (Stays e) q = rw e (same (phyAt s q))
-step-phys Keeps R same on s t (Moves p f moves keeps e) q =
+step-phys Keeps R same on s t (Moves p f moves there keeps e) q =
     let x : Phy = phyAt s q in
     rw e (change-at (R x) noPhy f (on f moves keeps x) (s .phys) p q (same x))
 step-phys Keeps R same on s t (Notes a b e) q = rw e (same (phyAt s q))
@@ -98,7 +104,7 @@ pub record Counts (s t : Shelf) : Type 0 where
 pub step-counts : (Keeps : (Phy → Phy) → (Phy → Bool) → Type 0) (s t : Shelf) → Step Keeps s t → Counts s t
 step-counts Keeps s t (Stays e) =
     rw e (record { size = refl; changes = (false, refl); expander3 = (false, refl); ses0 = (false, refl) })
-step-counts Keeps s t (Moves p f moves keeps e) =
+step-counts Keeps s t (Moves p f moves there keeps e) =
     rw e
     (record {
       size = length-set (s .phys) p (f (phyAt s p));
@@ -112,20 +118,20 @@ step-counts Keeps s t (Notes a b e) =
 -- ---- So who reaches what stays as it was, all through a run.
 
 pub record SameZones (s t : Shelf) : Type 0 where
-  pub frame : SameFrame s t
+  pub fixed : SameFixed s t
   pub groups : (p : ℕ) → phyAt t p .group ≡ phyAt s p .group
 
 pub zones-same : (s : Shelf) → SameZones s s
-zones-same s = record { frame = same-frame s; groups = λ p. refl }
+zones-same s = record { fixed = same-fixed s; groups = λ p. refl }
 
 pub zones-on : (s t u : Shelf) → SameZones s t → SameZones t u → SameZones s u
 zones-on s t u first then =
     record {
-      frame =
+      fixed =
           record {
-            number = then .frame .number ∙ first .frame .number;
-            table = then .frame .table ∙ first .frame .table;
-            identifier = then .frame .identifier ∙ first .frame .identifier;
+            number = then .fixed .number ∙ first .fixed .number;
+            table = then .fixed .table ∙ first .fixed .table;
+            identifier = then .fixed .identifier ∙ first .fixed .identifier;
           };
       groups = λ p. then .groups p ∙ first .groups p;
     }
@@ -146,7 +152,7 @@ pub next-zones : (s : Shelf) (operation : Operation) → SameZones s (next s ope
 next-zones s operation =
     let step : Step KeepsGroup s (next s operation) = next-step KeepsGroup s operation (group-kept operation) in
     record {
-      frame = step-frame KeepsGroup s (next s operation) step;
+      fixed = step-fixed KeepsGroup s (next s operation) step;
       groups =
           step-phys KeepsGroup (λ x y. y .group ≡ x .group) (λ x. refl) (λ f moves keeps x y e. keeps y ∙ e) s (next s operation) step;
     }

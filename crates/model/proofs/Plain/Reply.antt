@@ -35,8 +35,8 @@ broadcast-bytes-length (b ∷ bs) = omega (arith, broadcast-bytes-length bs)
 abbrev pub entry : ℕ → ℕ → ℕ → Broadcast
 entry p r n = record { phy = p; reason = r; count = n }
 
--- The broadcast counts that a shelf keeps, each under its type, its phy or FFh, and its reason: "per phy .. Change reason 0h,
--- Expander 1h and 2h", "device wide .. Expander 3h and SES 0h". Change is type 0h, SES 3h, Expander 4h.
+-- The broadcast counts that a shelf keeps, each under its type, its phy or FFh, and its reason: "Per phy: .. Change reason 0h,
+-- Expander 1h and 2h", "Device wide: .. Expander 3h (reduced functionality) and SES 0h". Change is type 0h, SES 3h, Expander 4h.
 pub data Kept (s : Shelf) (kind p r n : ℕ) : Type 0 where
   Change0 : kind ≡ 0x0 → T (exists s p) → r ≡ 0x0 → n ≡ phyAt s p .change0 → Kept s kind p r n
   Expander1 : kind ≡ 0x4 → T (exists s p) → r ≡ 0x1 → n ≡ phyAt s p .expander1 → Kept s kind p r n
@@ -159,28 +159,28 @@ module _ (s : Shelf) (g : ℕ) where
       (has-join (phyNumber s) (ofPhy s g kind) p (ltb-iff p (phyNumber s) .0 there) (onlyIf-iff (reaches s g p) (phyListed kind p (phyAt s p)) .1 (reached, m)))
 
   -- a count at its own type, phy and reason
-  moved : (kind k p q r r′ n : ℕ) → kind ≡ k → p ≡ q → r ≡ r′ → List·Memᴰ (entry q r′ n) (broadcasts s g k)
+  placed : (kind k p q r r′ n : ℕ) → kind ≡ k → p ≡ q → r ≡ r′ → List·Memᴰ (entry q r′ n) (broadcasts s g k)
       → List·Memᴰ (entry p r n) (broadcasts s g kind)
-  moved kind k p q r r′ n ek ep er m = rw (ek, ep, er) m
+  placed kind k p q r r′ n ek ep er m = rw (ek, ep, er) m
 
   has-broadcasts : (kind p r n : ℕ) → Kept s kind p r n → Sees s g p → (n ≡ 0 → ⊥)
       → List·Memᴰ (entry p r n) (broadcasts s g kind)
   unfolding broadcasts deviceListed phyListed
   has-broadcasts kind p r n (Change0 ek there er en) sees some =
-      moved kind 0x0 p p r 0x0 n ek refl er (has-phy 0x0 p 0x0 n there sees (has-listed p 0x0 n (phyAt s p .change0) some en))
+      placed kind 0x0 p p r 0x0 n ek refl er (has-phy 0x0 p 0x0 n there sees (has-listed p 0x0 n (phyAt s p .change0) some en))
   has-broadcasts kind p r n (Expander1 ek there er en) sees some =
-      moved kind 0x4 p p r 0x1 n ek refl er
+      placed kind 0x4 p p r 0x1 n ek refl er
       (has-phy 0x4 p 0x1 n there sees
       (Memᴰ·append-left (listed p 0x2 (phyAt s p .expander2)) (has-listed p 0x1 n (phyAt s p .expander1) some en)))
   has-broadcasts kind p r n (Expander2 ek there er en) sees some =
-      moved kind 0x4 p p r 0x2 n ek refl er
+      placed kind 0x4 p p r 0x2 n ek refl er
       (has-phy 0x4 p 0x2 n there sees
       (Memᴰ·append-right (listed p 0x1 (phyAt s p .expander1)) (has-listed p 0x2 n (phyAt s p .expander2) some en)))
   has-broadcasts kind p r n (Expander3 ek ep er en) sees some =
-      moved kind 0x4 p 0xFF r 0x3 n ek ep er
+      placed kind 0x4 p 0xFF r 0x3 n ek ep er
       (Memᴰ·append-left (joinBelow (phyNumber s) (ofPhy s g 0x4)) (has-listed 0xFF 0x3 n (s .expander3) some en))
   has-broadcasts kind p r n (Ses0 ek ep er en) sees some =
-      moved kind 0x3 p 0xFF r 0x0 n ek ep er
+      placed kind 0x3 p 0xFF r 0x0 n ek ep er
       (Memᴰ·append-left (joinBelow (phyNumber s) (ofPhy s g 0x3)) (has-listed 0xFF 0x0 n (s .ses0) some en))
 
 -- 06h lists exactly the counts of that type that are kept, that the source sees, and that are not 0

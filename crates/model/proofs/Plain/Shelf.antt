@@ -9,27 +9,27 @@ use Rattle.model.specs.declared.Shelf.{Shelf}
 use Rattle.model.specs.Shelf.{noPhy, phyAt, put, putDevice}
 
 -- what no operation changes
-pub record SameFrame (s t : Shelf) : Type 0 where
+pub record SameFixed (s t : Shelf) : Type 0 where
   pub number : t .number ≡ s .number
   pub table : t .table ≡ s .table
   pub identifier : t .identifier ≡ s .identifier
 
 -- nothing but phy p, and perhaps the change count, is another
 pub record OnlyPhy (s : Shelf) (p : ℕ) (t : Shelf) : Type 0 where
-  pub frame : SameFrame s t
+  pub fixed : SameFixed s t
   pub others : (q : ℕ) → (q ≡ p → ⊥) → phyAt t q ≡ phyAt s q
   pub expander3 : t .expander3 ≡ s .expander3
   pub ses0 : t .ses0 ≡ s .ses0
 
-pub same-frame : (s : Shelf) → SameFrame s s
-same-frame s = record { number = refl; table = refl; identifier = refl }
+pub same-fixed : (s : Shelf) → SameFixed s s
+same-fixed s = record { number = refl; table = refl; identifier = refl }
 
 pub same-only : (s : Shelf) (p : ℕ) → OnlyPhy s p s
-same-only s p = record { frame = same-frame s; others = λ q apart. refl; expander3 = refl; ses0 = refl }
+same-only s p = record { fixed = same-fixed s; others = λ q apart. refl; expander3 = refl; ses0 = refl }
 
 module _ (s : Shelf) (p : ℕ) (x : Phy) (count : ℕ) where
-  pub put-frame : SameFrame s (put s p x count)
-  put-frame = record { number = refl; table = refl; identifier = refl }
+  pub put-fixed : SameFixed s (put s p x count)
+  put-fixed = record { number = refl; table = refl; identifier = refl }
 
   pub put-same : p < length (s .phys) → phyAt (put s p x count) p ≡ x
   put-same h = getD-set-same (s .phys) p x noPhy h
@@ -44,11 +44,11 @@ module _ (s : Shelf) (p : ℕ) (x : Phy) (count : ℕ) where
   put-device-counts = (refl, refl)
 
   pub put-only : OnlyPhy s p (put s p x count)
-  put-only = record { frame = put-frame; others = put-other; expander3 = refl; ses0 = refl }
+  put-only = record { fixed = put-fixed; others = put-other; expander3 = refl; ses0 = refl }
 
 module _ (s : Shelf) (expander3 ses0 : ℕ) where
-  pub device-frame : SameFrame s (putDevice s expander3 ses0)
-  device-frame = record { number = refl; table = refl; identifier = refl }
+  pub device-fixed : SameFixed s (putDevice s expander3 ses0)
+  device-fixed = record { number = refl; table = refl; identifier = refl }
 
   pub device-phys : (putDevice s expander3 ses0 .phys ≡ s .phys) × (putDevice s expander3 ses0 .changes ≡ s .changes)
   device-phys = (refl, refl)
