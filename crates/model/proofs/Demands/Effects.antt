@@ -1,9 +1,8 @@
 -- What an accepted write does to the shelf, number by number, in plain logic: a 91h to its phy, a 93h to its phy's monitors.
 -- Every other phy, and every number that is not named, is as it was. And what is said here settles the shelf: no two shelves
 -- are left by one write. Assumes nothing.
-use Prim.Native.Nat.{ℕ, zero, suc, _+_, _≤_, _<_}
-use native.Mathlib.Nat.{zero-add, not-suc-le-zero, le-of-suc-le-suc}
-use native.Mathlib.Omega.{arith}
+use Prim.Native.Nat.{ℕ, _≤_, _<_}
+use native.Mathlib.Nat.{zero-add}
 use mathlib.Core.Path.{_≡_, refl, sym, _∙_}
 use mathlib.Core.Logic.{_↔_}
 use mathlib.Core.Bool.{Bool, true, false, not, cond, _&&_}
@@ -27,7 +26,7 @@ use Rattle.model.specs.Writes.{anyPeak, clearOn, configured, effect}
 use Rattle.model.specs.Zone.{bit}
 use Rattle.model.proofs.Laws.Tests.{and-iff, not-both-iff, both-iff, cond-iff, eqb-iff, by-each}
 use Rattle.model.proofs.Plain.Shelf.{OnlyPhy, put-only}
-use Rattle.model.proofs.Plain.Writes.{set-length, HasPeak, anyPeak-iff}
+use Rattle.model.proofs.Plain.Writes.{set-length, set-at, HasPeak, anyPeak-iff}
 
 -- Two shelves that differ from s in phy p and in the change count at most, and agree in these, are one.
 same-shelf : {s t u : Shelf} {p : ℕ} → OnlyPhy s p t → OnlyPhy s p u
@@ -43,6 +42,8 @@ same-shelf {s} {t} {u} {p} a b m n same count =
     at q false e = a .others q (eqb-false q p e) ∙ sym (b .others q (eqb-false q p e))
 
 -- ---- 91h
+
+-- What a phy is afterwards is written out here, and not by the definitions of `Counting` and `Writes`, which it is to check.
 
 -- phy p is x, and the change count is n
 abbrev pub Has : Shelf → ℕ → Phy → ℕ → Type 0
@@ -227,14 +228,6 @@ module _ (frame : List ℕ) where
 finds-iff : (frame : List ℕ) (ms : List Monitor) → T (clears frame && anyPeak ms) ↔ (T (clears frame) × HasPeak ms)
 finds-iff frame ms = both-iff (clears frame) (anyPeak ms) (λ t. t, λ t. t) (anyPeak-iff ms)
 
--- the setting, of a list that begins with monitor i: its k-th is monitor n
-set-at : (frame : List ℕ) (ms : List Monitor) (i k n : ℕ) → i + k ≡ n → k < length ms
-    → getD (setMonitors frame (byte frame 11) i ms) k freshMonitor ≡ setAt frame n (getD ms k freshMonitor)
-unfolding setMonitors
-set-at frame [] i k n e h = absurd (not-suc-le-zero h)
-set-at frame (m ∷ ms) i zero n e h = let same : i ≡ n = omega arith in rw same
-set-at frame (m ∷ ms) i (suc k) n e h = set-at frame ms (suc i) k n (omega arith) (le-of-suc-le-suc h)
-
 -- the clear
 abbrev clearedIf : Bool → List Monitor → List Monitor
 clearedIf clear ms = cond clear (map clearMonitor ms) ms
@@ -288,7 +281,7 @@ module _ (frame : List ℕ) (x : Phy) where
 
   each-after : (i : ℕ) → i < length (x .monitors)
       → getD monitorsAfter i freshMonitor ≡ monitorAfter frame i (monitorAt x i)
-  each-after i h = rw (cleared-at, set-at frame (x .monitors) 0 i i (zero-add i) h) (after-is frame i (monitorAt x i))
+  each-after i h = rw (cleared-at, set-at frame (byte frame 11) (x .monitors) 0 i i (zero-add i) h) (after-is frame i (monitorAt x i))
 
 -- an accepted 93h, of a phy that there is, does exactly this
 pub configured-effect : (s : Shelf) (frame : List ℕ) (expected p : ℕ) → p < length (s .phys)

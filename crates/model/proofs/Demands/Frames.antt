@@ -138,7 +138,8 @@ sent-short s g frame room =
     (asked-function frame (rw (accepted-decided s g frame e .0) tt))
     (accepted-short s g (asked frame))))
 
--- every response, a failed one too: "A failed response is 41h, the function, the result, 00h."
+-- Every response. `handle .. .reply` is the bytes that `lentAfter` puts at the front of the lent buffer, and whose number `served` tells.
+-- A failed one too: "A failed response is 41h, the function, the result, 00h."
 pub response-framed : (s : Shelf) (g : ℕ) (frame : List ℕ) (room : ℕ) (bytes : List ℕ)
     → handle s g frame room .reply ≡ Sends bytes → Framed (functionOf frame) (resultCode (verdict s g frame)) bytes
 response-framed s g frame room bytes e = sent-short s g frame room bytes e .0

@@ -1,13 +1,14 @@
 -- A start gives a shelf whose numbers fit their widths, with 1 to 24 phys, groups up to 31 and a change count that is not 0000h, and every
 -- operation keeps that. Assumes nothing.
-use Prim.Native.Nat.{ℕ, zero, suc, _+_, _≤_, _<_, zero-le}
+use Prim.Native.Nat.{ℕ, _+_, _≤_, _<_, zero-le}
+use native.Mathlib.Nat.{zero-add}
 use native.Mathlib.Omega.{arith}
 use mathlib.Core.Path.{_≡_, refl, _∙_}
 use mathlib.Core.Bool.{Bool, true, false}
 use mathlib.Core.List.{List, [], _∷_, map}
-use borrow.Author.Tests.{ltb-true}
-use lib.Dec.{ltb, eqb}
-use lib.ListN.{length, getD, replicate, length-set, length-map}
+use borrow.Author.Tests.{ltb-true, ltb-false}
+use lib.Dec.{T, ltb, eqb}
+use lib.ListN.{length, getD, replicate, length-map, List·getD-eq-default, length-set}
 use Rattle.model.specs.declared.Monitor.{Monitor}
 use Rattle.model.specs.declared.Phy.{Phy}
 use Rattle.model.specs.declared.Shelf.{Shelf}
@@ -15,6 +16,7 @@ use Rattle.model.specs.declared.Taken.the-variants.{Done}
 use Rattle.model.specs.Bytes.{byte, dword}
 use Rattle.model.specs.Counting.{addWrapping, addSaturating, counted, crosses, originateCrossings, addError, eventOn}
 use Rattle.model.specs.Counting.{changeOn}
+use Rattle.model.specs.Reach.{reaches}
 use Rattle.model.specs.Reply.{errorAt, monitorAt}
 use Rattle.model.specs.Runs.{Operation, Ask, Event, LinkChange, ReducedFunctionality, Ses, QueryReach, next, after}
 use Rattle.model.specs.Shelf.{phyAt, phyWith, freshMonitor, freshPhy, startGroup, freshShelf, startTaken, start}
@@ -29,9 +31,10 @@ use Rattle.model.proofs.Laws.Places.{All, Each, change-at, map-at, repl
 use Rattle.model.proofs.Laws.Steps.{Step, KeptBy, next-step, step-fixed, step-phys, Counts, step-counts}
 use Rattle.model.proofs.Laws.Tests.{cond-by, cond-both}
 use Rattle.model.proofs.Plain.Counting.{originate-range}
+use Rattle.model.proofs.Plain.Reach.{reaches-nothing}
 use Rattle.model.proofs.Plain.Shelf.{SameFixed}
 use Rattle.model.proofs.Plain.Start.{Startable, start-done, fresh-phys}
-use Rattle.model.proofs.Plain.Writes.{set-length}
+use Rattle.model.proofs.Plain.Writes.{set-length, set-at}
 use Rattle.model.proofs.Plain.Zone.{LegalTable}
 
 -- ---- what it says
@@ -166,15 +169,20 @@ module _ (frame : List ℕ) (fit : BytesFit frame) where
         threshold = dword-fits _;
       }
 
-  set-at : (d i : ℕ) (ms : List Monitor) (j : ℕ) → MonitorFits (getD ms j freshMonitor)
-      → MonitorFits (getD (setMonitors frame d i ms) j freshMonitor)
-  unfolding setMonitors
-  set-at d i [] j here = here
-  set-at d i (m ∷ ms) zero here = cond-both MonitorFits (ltb i d) _ _ (set-monitor-fits i m here) here
-  set-at d i (m ∷ ms) (suc j) here = set-at d (suc i) ms j here
+  set-each : (d : ℕ) (ms : List Monitor) → Each MonitorFits freshMonitor ms
+      → Each MonitorFits freshMonitor (setMonitors frame d 0 ms)
+  set-each d ms each j = go (ltb j (length ms)) refl
+    where
+      go : (b : Bool) → ltb j (length ms) ≡ b → MonitorFits (getD (setMonitors frame d 0 ms) j freshMonitor)
+      go true e =
+          rw (set-at frame d ms 0 j j (zero-add j) (ltb-true j (length ms) e))
+          (cond-both MonitorFits (ltb j d) _ _ (set-monitor-fits j (getD ms j freshMonitor) (each j)) (each j))
+      go false e =
+          let past : length (setMonitors frame d 0 ms) ≤ j = rw (set-length frame d 0 ms) (ltb-false j (length ms) e) in
+          rw (List·getD-eq-default (setMonitors frame d 0 ms) freshMonitor {n = j} past) (omega arith)
 
   set-fits : (d : ℕ) (ms : List Monitor) → MonitorsFit ms → MonitorsFit (setMonitors frame d 0 ms)
-  set-fits d ms f = (set-length frame d 0 ms ∙ f .0, λ j. set-at d 0 ms j (f .1 j))
+  set-fits d ms f = (set-length frame d 0 ms ∙ f .0, set-each d ms (f .1))
 
 -- ---- one phy
 
@@ -370,3 +378,8 @@ pub start-sound : (n : ℕ) (groups table identifier : List ℕ) → StartFits t
 unfolding start
 start-sound n groups table identifier fit done =
     rw done (fresh-sound n groups table identifier fit (start-done n groups table .0 done))
+
+-- ---- and in it a source group above 31 reaches nothing
+
+pub above-31 : (s : Shelf) (g p : ℕ) → Fits s → 31 < g → T (reaches s g p) → ⊥
+above-31 s g p fits above = reaches-nothing s g p (omega arith)

@@ -139,25 +139,32 @@ full-or-none s g frame out {Full = Full} answered passes full =
     positive : (n : ℕ) → (n ≡ 0 → ⊥) → 1 ≤ n
     positive n h = omega arith
 
--- byte 9 names one of the shelf's 24 places
-phy-placed : (s : Shelf) (p : ℕ) → length (s .phys) ≡ 24 → T (exists s p) → p < length (s .phys)
-phy-placed s p fits there = omega (arith, exists-iff s p .0 there)
+-- The full effect is that of a shelf whose array of phys has its 24 places, as every record has; that there is none asks nothing of it.
+abbrev pub Placed : Shelf → Type 0
+Placed s = length (s .phys) ≡ 24
 
-pub control-write : (s : Shelf) (g : ℕ) (frame out : List ℕ) → length (s .phys) ≡ 24 → NotRefused s g frame out → functionOf frame ≡ 0x91
-    → FullOrNone (ControlPasses s g frame) (Controlled s (byte frame 9) (byte frame 10)) s (served s g frame out .shelf)
-control-write s g frame out fits answered e =
+phy-placed : (s : Shelf) (p : ℕ) → Placed s → T (exists s p) → p < length (s .phys)
+phy-placed s p placed there = omega (arith, exists-iff s p .0 there)
+
+pub control-write : (s : Shelf) (g : ℕ) (frame out : List ℕ) → NotRefused s g frame out → functionOf frame ≡ 0x91
+    → FullOrNone (ControlPasses s g frame) (λ t. Placed s → Controlled s (byte frame 9) (byte frame 10) t)
+    s
+    (served s g frame out .shelf)
+control-write s g frame out answered e =
     full-or-none s g frame out answered (control-accepted s g frame out answered e)
-    (λ w.
+    (λ w placed.
     rw (asked-91 frame e)
-    (controlled-effect s frame (word frame 4) (byte frame 9) (byte frame 10) (phy-placed s (byte frame 9) fits (w .phy))))
+    (controlled-effect s frame (word frame 4) (byte frame 9) (byte frame 10) (phy-placed s (byte frame 9) placed (w .phy))))
 
-pub configure-write : (s : Shelf) (g : ℕ) (frame out : List ℕ) → length (s .phys) ≡ 24 → NotRefused s g frame out → functionOf frame ≡ 0x93
-    → FullOrNone (ConfigurePasses s g frame) (Configured s (byte frame 9) frame) s (served s g frame out .shelf)
-configure-write s g frame out fits answered e =
+pub configure-write : (s : Shelf) (g : ℕ) (frame out : List ℕ) → NotRefused s g frame out → functionOf frame ≡ 0x93
+    → FullOrNone (ConfigurePasses s g frame) (λ t. Placed s → Configured s (byte frame 9) frame t)
+    s
+    (served s g frame out .shelf)
+configure-write s g frame out answered e =
     full-or-none s g frame out answered (configure-accepted s g frame out answered e)
-    (λ w.
+    (λ w placed.
     rw (asked-93 frame e)
-    (configured-effect s frame (word frame 4) (byte frame 9) (phy-placed s (byte frame 9) fits (w .phy))))
+    (configured-effect s frame (word frame 4) (byte frame 9) (phy-placed s (byte frame 9) placed (w .phy))))
 
 -- ---- reads: every request but 91h and 93h
 
