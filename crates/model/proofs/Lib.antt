@@ -7,7 +7,7 @@ pub mod Cases
 pub mod Vectors
 -- laws that many proofs use
 pub mod Laws
--- each test of specs/ once more, in plain logic
+-- the tests of specs/ once more, in plain logic
 pub mod Plain
 -- the three demands
 pub mod Demands

@@ -1,4 +1,5 @@
--- Each test of specs/ once more, in plain logic: the test holds exactly when the sentence does. One file to a file of specs/.
+-- The tests of specs/ once more, in plain logic: the test holds exactly when the sentence does. Beside them, in the same files, plain
+-- facts about definitions that are no tests.
 pub mod Bytes
 pub mod Zone
 pub mod Shelf

@@ -1,5 +1,5 @@
 -- Every response, accepted or failed, has 4 bytes and 4 for each dword that byte 3 says, at most 1,028 in all, and every byte is below 256
--- on a shelf whose numbers fit their widths. Assumes nothing.
+-- where the frame's bytes are and the shelf's numbers fit their widths. Assumes nothing.
 use Prim.Native.Nat.{ℕ, _+_, _*_, _≤_, _<_, zero-le}
 use native.Mathlib.Nat.{le-refl}
 use native.Mathlib.Omega.{arith}

@@ -1,5 +1,5 @@
--- A start gives a shelf whose numbers fit their widths, with 1 to 24 phys, groups up to 31 and a change count that is not 0000h, and every
--- operation keeps that. Assumes nothing.
+-- A start gives a shelf whose numbers fit their widths, with 1 to 24 phys, groups up to 31, a legal table and a change count that is not
+-- 0000h, and every operation keeps that, where what they are given has its sizes and widths. Assumes nothing.
 use Prim.Native.Nat.{ℕ, _+_, _≤_, _<_, zero-le}
 use native.Mathlib.Nat.{zero-add}
 use native.Mathlib.Omega.{arith}
