@@ -28,7 +28,7 @@ use Rattle.model.specs.Shelf.{phyNumber, exists, phyAt, shelfWith, outco
 use Rattle.model.specs.Tests.{given, joinBelow}
 use Rattle.model.specs.Writes.{controlled, controlChanges, configured, effect}
 use Rattle.model.proofs.Demands.Looks.{looks, looks-reaches, looks-reached, looks-twice, looks-change}
-use Rattle.model.proofs.Laws.Checks.{both-outcomes, read-reached}
+use Rattle.model.proofs.Laws.Checks.{both-outcomes, passed-11, passed-14}
 use Rattle.model.proofs.Laws.Handled.{verdict, both-handled, both-concluded, accepted-decided}
 use Rattle.model.proofs.Laws.PhyChanges.{enablesBy, event-inner, change-inner, configured-inner, controlled-inner}
 
@@ -85,12 +85,12 @@ module _ (g : ℕ) (s : Shelf) where
 
   looks-respond : (frame : List ℕ) (request : Request) → accepted (decide s g frame request) ≡ true
       → respond (looks g s) g request ≡ respond s g request
-  unfolding respond decide reportGeneral reportManufacturer reportBroadcast reportPhyErrorLog reportPhyEvent
+  unfolding respond reportGeneral reportManufacturer reportBroadcast reportPhyErrorLog reportPhyEvent
   looks-respond frame ReportGeneral e = refl
   looks-respond frame ReportManufacturer e = refl
   looks-respond frame (ReportBroadcast kind) e = ap (broadcastFrame s kind) (looks-broadcasts kind)
-  looks-respond frame (ReportPhyErrorLog p) e = ap (reportPhyErrorLog s p) (looks-reached g s p (read-reached s g p e))
-  looks-respond frame (ReportPhyEvent p) e = ap (reportPhyEvent s p) (looks-reached g s p (read-reached s g p e))
+  looks-respond frame (ReportPhyErrorLog p) e = ap (reportPhyErrorLog s p) (looks-reached g s p (passed-11 s g frame p e .1))
+  looks-respond frame (ReportPhyEvent p) e = ap (reportPhyEvent s p) (looks-reached g s p (passed-14 s g frame p e .1))
   looks-respond frame (PhyControl expected p operation) e = refl
   looks-respond frame (ConfigurePhyEvent expected clear p d) e = refl
 

@@ -1,20 +1,23 @@
 -- When none of a row of house refusals is given, and what is known of a request that passed its checks. Assumes nothing.
 use Prim.Native.Nat.{ℕ, _≤_}
 use native.Mathlib.Omega.{arith}
-use mathlib.Core.Path.{_≡_, refl}
+use mathlib.Core.Path.{_≡_, refl, sym, _∙_}
 use mathlib.Core.Logic.{_↔_, Iff·trans}
-use mathlib.Core.Bool.{Bool, true, not, false≢true}
+use mathlib.Core.Bool.{Bool, true, false, not, false≢true}
+use mathlib.Core.List.{List}
 use lib.Dec.{T, T-not, not-T}
 use Rattle.model.specs.declared.FunctionResult.{FunctionResult}
 use Rattle.model.specs.declared.House.{House}
 use Rattle.model.specs.declared.House.the-variants.{PhyNumber, PhyGroup, IllegalTable, SourceGroup, ShortBuffer}
 use Rattle.model.specs.declared.House.the-variants.{BadFrame, NoSuchPhy, EventSource, Amount}
+use Rattle.model.specs.declared.Request.{Request}
+use Rattle.model.specs.declared.Request.the-variants.{ReportPhyErrorLog, ReportPhyEvent, PhyControl, ConfigurePhyEvent}
 use Rattle.model.specs.declared.Shelf.{Shelf}
 use Rattle.model.specs.declared.Taken.{Taken}
 use Rattle.model.specs.declared.Taken.the-variants.{Done, NotDone}
 use Rattle.model.specs.House.{houseNumber, takenNumber}
 use Rattle.model.specs.Reach.{reaches}
-use Rattle.model.specs.Results.{accepted, checkRead, checkWrite}
+use Rattle.model.specs.Results.{accepted, decide}
 use Rattle.model.specs.Shelf.{exists, outcome}
 use Rattle.model.specs.Tests.{given}
 use Rattle.model.proofs.Laws.Tests.{check-iff, not-not-iff, not-false, check-same, check-map}
@@ -84,13 +87,41 @@ outcome-stays (NotDone house) old new refused = refl
 
 -- ---- The phy of a request that is accepted exists and is reached, wherever these checks stand among the others.
 
-pub read-reached : (s : Shelf) (g p : ℕ) → accepted (checkRead s g p) ≡ true → reaches s g p ≡ true
-read-reached s g p e =
-    not-false (reaches s g p) (λ out. false≢true (simp (check-map accepted, out, check-same) at e))
+-- two tests without which a result is no 00h
+both-passed : (result : FunctionResult) (a b : Bool) → (a ≡ false → accepted result ≡ false)
+    → (b ≡ false → accepted result ≡ false) → accepted result ≡ true → (a ≡ true) × (b ≡ true)
+both-passed result a b without-a without-b e =
+    (not-false a (λ out. false≢true (sym (without-a out) ∙ e)), not-false b (λ out. false≢true (sym (without-b out) ∙ e)))
 
-module _ (s : Shelf) (g expected p : ℕ) (contents : FunctionResult) where
-  pub write-reached : accepted (checkWrite s g expected p contents) ≡ true → reaches s g p ≡ true
-  write-reached e = not-false (reaches s g p) (λ out. false≢true (simp (check-map accepted, out, check-same) at e))
+module _ (s : Shelf) (g : ℕ) (frame : List ℕ) where
+  -- what is known of phy p where this request is accepted
+  abbrev pub Passed : Request → ℕ → Type 0
+  Passed request p = accepted (decide s g frame request) ≡ true → (exists s p ≡ true) × (reaches s g p ≡ true)
 
-  pub write-exists : accepted (checkWrite s g expected p contents) ≡ true → exists s p ≡ true
-  write-exists e = not-false (exists s p) (λ out. false≢true (simp (check-map accepted, out, check-same) at e))
+  pub passed-11 : (p : ℕ) → Passed (ReportPhyErrorLog p) p
+  unfolding decide
+  passed-11 p =
+      both-passed (decide s g frame (ReportPhyErrorLog p)) (exists s p) (reaches s g p)
+      (λ out. simp (check-map accepted, out))
+      (λ out. simp (check-map accepted, out, check-same))
+
+  pub passed-14 : (p : ℕ) → Passed (ReportPhyEvent p) p
+  unfolding decide
+  passed-14 p =
+      both-passed (decide s g frame (ReportPhyEvent p)) (exists s p) (reaches s g p)
+      (λ out. simp (check-map accepted, out))
+      (λ out. simp (check-map accepted, out, check-same))
+
+  pub passed-91 : (expected p operation : ℕ) → Passed (PhyControl expected p operation) p
+  unfolding decide
+  passed-91 expected p operation =
+      both-passed (decide s g frame (PhyControl expected p operation)) (exists s p) (reaches s g p)
+      (λ out. simp (check-map accepted, out, check-same))
+      (λ out. simp (check-map accepted, out, check-same))
+
+  pub passed-93 : (expected p d : ℕ) (clear : Bool) → Passed (ConfigurePhyEvent expected clear p d) p
+  unfolding decide
+  passed-93 expected p d clear =
+      both-passed (decide s g frame (ConfigurePhyEvent expected clear p d)) (exists s p) (reaches s g p)
+      (λ out. simp (check-map accepted, out, check-same))
+      (λ out. simp (check-map accepted, out, check-same))
