@@ -1,11 +1,11 @@
--- When none of a row of house refusals is given, and what is known of a request that passed its checks. Assumes nothing.
+-- What a start or a report is told, what becomes of the shelf, and what is known of a request that passed its checks. Assumes nothing.
 use Prim.Native.Nat.{ℕ, _≤_}
 use native.Mathlib.Omega.{arith}
 use mathlib.Core.Path.{_≡_, refl, sym, _∙_}
 use mathlib.Core.Logic.{_↔_, Iff·trans}
 use mathlib.Core.Bool.{Bool, true, false, not, false≢true}
 use mathlib.Core.List.{List}
-use lib.Dec.{T, T-not, not-T}
+use lib.Dec.{T}
 use Rattle.model.specs.declared.FunctionResult.{FunctionResult}
 use Rattle.model.specs.declared.House.{House}
 use Rattle.model.specs.declared.House.the-variants.{PhyNumber, PhyGroup, IllegalTable, SourceGroup, ShortBuffer}
@@ -19,35 +19,7 @@ use Rattle.model.specs.House.{houseNumber, takenNumber}
 use Rattle.model.specs.Reach.{reaches}
 use Rattle.model.specs.Results.{accepted, decide}
 use Rattle.model.specs.Shelf.{exists, outcome}
-use Rattle.model.specs.Tests.{given}
-use Rattle.model.proofs.Laws.Tests.{check-iff, not-not-iff, not-false, check-same, check-map}
-
-refused-not-done : (house : House) → NotDone house ≡ Done → ⊥
-refused-not-done house e = let z : _≡_ {A = ℕ} 0 1 = cc in omega arith
-
--- one refusal is not given, and the rest comes out done
-pub given-iff : (a : Bool) (house : House) (rest : Taken)
-    → (given a (NotDone house) rest ≡ Done) ↔ ((T a → ⊥) × (rest ≡ Done))
-given-iff a house rest =
-    Iff·trans (check-iff (not a) (NotDone house) rest Done (refused-not-done house))
-    (λ h. (T-not a (h .0), h .1), λ h. (not-T a (h .0), h .1))
-
--- none of three is given, in the words of what each condition being false says
-pub none-given-iff : (a b c : Bool) (h₁ h₂ h₃ : House) {A B C : Type 0}
-    → (T a → ⊥) ↔ A → (T b → ⊥) ↔ B → (T c → ⊥) ↔ C
-    → (given a (NotDone h₁) (given b (NotDone h₂) (given c (NotDone h₃) Done)) ≡ Done) ↔ (A × B × C)
-none-given-iff a b c h₁ h₂ h₃ f g h = (
-  λ e.
-      let (x, e₁) = given-iff a h₁ (given b (NotDone h₂) (given c (NotDone h₃) Done)) .0 e in
-      let (y, e₂) = given-iff b h₂ (given c (NotDone h₃) Done) .0 e₁ in
-      let (z, e₃) = given-iff c h₃ Done .0 e₂ in
-      (f .0 x, g .0 y, h .0 z),
-  λ p.
-      given-iff a h₁ (given b (NotDone h₂) (given c (NotDone h₃) Done)) .1 (
-        f .1 (p .0),
-        given-iff b h₂ (given c (NotDone h₃) Done) .1 (g .1 (p .1), given-iff c h₃ Done .1 (h .1 (p .2), refl)),
-      ),
-)
+use Rattle.model.proofs.Laws.Tests.{not-not-iff, not-false, check-same, check-map}
 
 -- a condition that says "not .." is false exactly if what stands behind the "not" holds
 pub unless-iff : (a : Bool) {A : Type 0} → T a ↔ A → (T (not a) → ⊥) ↔ A
@@ -64,6 +36,11 @@ house-some BadFrame = omega arith
 house-some NoSuchPhy = omega arith
 house-some EventSource = omega arith
 house-some Amount = omega arith
+
+-- so what is told is done exactly if its number is 0
+pub done-iff : (taken : Taken) → (taken ≡ Done) ↔ (takenNumber taken ≡ 0)
+done-iff Done = (λ e. refl, λ e. refl)
+done-iff (NotDone house) = (λ e. cc, λ e. absurd (omega (arith, house-some house)))
 
 -- what is told of an outcome is what was judged
 pub outcome-taken : (taken : Taken) (old new : Shelf) → outcome taken old new .taken ≡ taken

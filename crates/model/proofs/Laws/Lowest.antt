@@ -61,25 +61,43 @@ lowest-later A rest n k fails = (
   λ h. (⊎-elim (λ e. absurd (fails (e .1))) (λ there. there) (h .0), λ j below there. h .1 j below (inr there)),
 )
 
+row-each : (tests : List Bool) (conditions : List (Type 0)) (n : ℕ) → 1 ≤ n → Say tests conditions → (k : ℕ)
+    → ((1 ≤ k) × (firstGiven tests n ≡ k)) ↔ Lowest conditions n k
+row-each [] [] n from say k = (λ h. absurd (omega arith), λ h. absurd (h .0))
+row-each [] (A ∷ rest) n from say k = absurd say
+row-each (a ∷ tests) [] n from say k = absurd say
+row-each (true ∷ tests) (A ∷ rest) n from say k = lowest-here A rest n k (say .0 .0 tt) from
+row-each (false ∷ tests) (A ∷ rest) n from say k =
+    Iff·trans (row-each tests rest (suc n) (omega arith) (say .1) k) (lowest-later A rest n k (λ a. say .0 .1 a))
+
+-- ---- and 0 exactly when none of them holds
+
+abbrev pub NoneHolds : List Bool → Type 0
+NoneHolds [] = Unit {0}
+NoneHolds (a ∷ tests) = (T a → ⊥) × NoneHolds tests
+
+pub none-given : (tests : List Bool) (n : ℕ) → 1 ≤ n → (firstGiven tests n ≡ 0) ↔ NoneHolds tests
+none-given [] n from = (λ e. tt, λ none. refl)
+none-given (true ∷ tests) n from = (λ e. absurd (omega arith), λ none. absurd (none .0 tt))
+none-given (false ∷ tests) n from =
+    let later = none-given tests (suc n) (omega arith) in
+    (λ e. (λ t. t, later .0 e), λ none. later .1 (none .1))
+
+none-applies : (tests : List Bool) (conditions : List (Type 0)) (n : ℕ) → Say tests conditions
+    → NoneHolds tests ↔ ((k : ℕ) → Applies conditions n k → ⊥)
+none-applies [] [] n say = (λ none k there. there, λ none. tt)
+none-applies [] (A ∷ rest) n say = absurd say
+none-applies (a ∷ tests) [] n say = absurd say
+none-applies (a ∷ tests) (A ∷ rest) n say =
+    let later = none-applies tests rest (suc n) (say .1) in (
+      λ none k. ⊎-elim (λ h. none .0 (say .0 .1 (h .1))) (λ there. later .0 (none .1) k there),
+      λ none. (λ t. none n (inl (refl, say .0 .0 t)), later .1 (λ k there. none k (inr there))),
+    )
+
 pub row-gives : (tests : List Bool) (conditions : List (Type 0)) (n : ℕ) → 1 ≤ n → Say tests conditions
     → Gives conditions n (firstGiven tests n)
-row-gives [] [] n from say =
-    record { each = λ k. (λ h. absurd (omega arith), λ h. absurd (h .0)); none = (λ e k there. there, λ none. refl) }
-row-gives [] (A ∷ rest) n from say = absurd say
-row-gives (a ∷ tests) [] n from say = absurd say
-row-gives (true ∷ tests) (A ∷ rest) n from say =
-    let holds : A = say .0 .0 tt in
+row-gives tests conditions n from say =
     record {
-      each = λ k. lowest-here A rest n k holds from;
-      none = (λ e. absurd (omega arith), λ none. absurd (none n (inl (refl, holds))));
-    }
-row-gives (false ∷ tests) (A ∷ rest) n from say =
-    let fails : A → ⊥ = λ a. say .0 .1 a in
-    let later : Gives rest (suc n) (firstGiven tests (suc n)) = row-gives tests rest (suc n) (omega arith) (say .1) in
-    record {
-      each = λ k. Iff·trans (later .each k) (lowest-later A rest n k fails);
-      none = (
-        λ e k. ⊎-elim (λ h. fails (h .1)) (λ there. later .none .0 e k there),
-        λ none. later .none .1 (λ k there. none k (inr there)),
-      );
+      each = row-each tests conditions n from say;
+      none = Iff·trans (none-given tests n from) (none-applies tests conditions n say);
     }

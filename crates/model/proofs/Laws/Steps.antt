@@ -21,12 +21,11 @@ use Rattle.model.specs.Runs.{Operation, Ask, Event, LinkChange, ReducedF
 use Rattle.model.specs.Shelf.{noPhy, exists, phyAt, put, putDevice}
 use Rattle.model.specs.Tests.{given}
 use Rattle.model.specs.Writes.{controlled, controlChanges, configured, effect}
-use Rattle.model.proofs.Laws.Checks.{given-iff, every-outcome, passed-91, passed-93}
+use Rattle.model.proofs.Laws.Checks.{outcome-taken, every-outcome, passed-91, passed-93}
 use Rattle.model.proofs.Laws.Handled.{handled-all, accepted-decided}
 use Rattle.model.proofs.Laws.PhyChanges.{moved, event-inner, change-inner, configured-inner, controlled-inner}
 use Rattle.model.proofs.Laws.Places.{change-at}
-use Rattle.model.proofs.Laws.Tests.{not-not-iff}
-use Rattle.model.proofs.Plain.Reports.{event-done}
+use Rattle.model.proofs.Plain.Reports.{event-done, link-change-done}
 use Rattle.model.proofs.Plain.Shelf.{SameFixed, same-fixed, put-fixed, device-fixed}
 
 -- From s to t. A change of a phy is what becomes of the phy, and whether that moves the change count; each keeps what is asked.
@@ -72,7 +71,7 @@ module _ (Keeps : (Phy → Phy) → (Phy → Bool) → Type 0) (s : Shelf) where
   next-step (LinkChange p) keeps =
       every-outcome (Step Keeps s) (given (not (exists s p)) (NotDone NoSuchPhy) Done) s _ (Stays refl)
       (λ done.
-      Moves p (λ x. changeOn (x .enabled) x) (λ x. true) (not-not-iff (exists s p) .0 (given-iff (not (exists s p)) NoSuchPhy Done .0 done .0)) keeps refl)
+      Moves p (λ x. changeOn (x .enabled) x) (λ x. true) (link-change-done s p .0 (outcome-taken _ s _ ∙ done)) keeps refl)
   next-step ReducedFunctionality keeps = Notes true false refl
   next-step Ses keeps = Notes false true refl
   next-step (QueryReach g) keeps = Stays refl

@@ -169,12 +169,6 @@ some-below-iff n test = (
 
 -- ---- the first failure decides
 
--- a check with something good behind it comes out good exactly if its test holds and the rest comes out good
-pub check-iff : {A : Type 0} (b : Bool) (failure rest good : A) → (failure ≡ good → ⊥)
-    → (check b failure rest ≡ good) ↔ (T b × (rest ≡ good))
-check-iff true failure rest good bad = (λ e. (tt, e), λ h. h .1)
-check-iff false failure rest good bad = (λ e. absurd (bad e), λ h. absurd (h .0))
-
 -- a check with the same on both sides
 pub check-same : {A : Type 0} (b : Bool) (x : A) → check b x x ≡ x
 check-same true x = refl

@@ -1,18 +1,21 @@
 -- When a report is accepted, in plain logic. Assumes nothing.
 use Prim.Native.Nat.{ℕ, _≤_, _<_}
 use native.Mathlib.Nat.{not-le-of-lt, le-of-suc-le-suc, lt-of-not-le}
-use mathlib.Core.Path.{_≡_, refl, subst}
+use native.Mathlib.Omega.{arith}
+use mathlib.Core.Path.{_≡_, subst}
 use mathlib.Core.Logic.{_↔_, _⊎_, inl, inr, ⊎-elim, Iff·trans}
 use mathlib.Core.Bool.{not, _&&_, _||_}
+use mathlib.Core.List.{[], _∷_}
 use lib.Dec.{T, ltb, eqb, T-not}
-use Rattle.model.specs.declared.House.the-variants.{NoSuchPhy, EventSource, Amount}
 use Rattle.model.specs.declared.Shelf.{Shelf}
 use Rattle.model.specs.declared.Taken.the-variants.{Done}
+use Rattle.model.specs.House.{takenNumber}
 use Rattle.model.specs.Reports.{amountTooLarge, eventTaken, linkChange}
 use Rattle.model.specs.Shelf.{exists}
 use Rattle.model.specs.Sources.{supported}
-use Rattle.model.proofs.Laws.Checks.{given-iff, none-given-iff, outcome-taken}
-use Rattle.model.proofs.Laws.Tests.{both-iff, either-iff, or-iff, not-not-iff, eqb-iff, ltb-iff}
+use Rattle.model.proofs.Laws.Checks.{done-iff, outcome-taken}
+use Rattle.model.proofs.Laws.Lowest.{none-given}
+use Rattle.model.proofs.Laws.Tests.{both-iff, either-iff, or-iff, not-not-iff, eqb-iff, ltb-iff, check-map}
 use Rattle.model.proofs.Plain.Sources.{zero-unsupported}
 
 -- H9: "amount above FFh for 2Bh, or above FFFFh for 2Ch"
@@ -63,22 +66,36 @@ pub event-done : (s : Shelf) (p source amount : ℕ)
     ↔ Reportable s p source amount
 unfolding eventTaken
 event-done s p source amount =
-    Iff·trans
-    (none-given-iff (not (exists s p)) (eqb source 0x00 || not (supported source)) (amountTooLarge source amount)
-    NoSuchPhy
-    EventSource
-    Amount
-    (not-not-iff (exists s p))
-    (source-iff source)
-    (amounts-iff source amount)) (
-      λ h. record { phy-exists = h .0; source-supported = h .1; amount-2B = h .2 .0; amount-2C = h .2 .1 },
-      λ r. (r .phy-exists, r .source-supported, (r .amount-2B, r .amount-2C)),
-    )
+    Iff·trans (done-iff (eventTaken s p source amount))
+    (simp (check-map takenNumber)
+    (Iff·trans
+    (none-given
+    (not (exists s p) ∷ (eqb source 0x00 || not (supported source)) ∷ amountTooLarge source amount ∷ [])
+    7
+    (omega arith)) (
+      λ h.
+          let (fits-2B, fits-2C) = amounts-iff source amount .0 (h .1 .1 .0) in
+          record {
+            phy-exists = not-not-iff (exists s p) .0 (h .0);
+            source-supported = source-iff source .0 (h .1 .0);
+            amount-2B = fits-2B;
+            amount-2C = fits-2C;
+          },
+      λ r. (
+        not-not-iff (exists s p) .1 (r .phy-exists),
+        (
+          source-iff source .1 (r .source-supported),
+          (amounts-iff source amount .1 (r .amount-2B, r .amount-2C), tt),
+        ),
+      ),
+    )))
 
 -- a link change is accepted exactly if the phy exists
 pub link-change-done : (s : Shelf) (p : ℕ) → (linkChange s p .taken ≡ Done) ↔ T (exists s p)
 unfolding linkChange
 link-change-done s p =
-    rw outcome-taken
-    (Iff·trans (given-iff (not (exists s p)) NoSuchPhy Done)
-    (λ h. not-not-iff (exists s p) .0 (h .0), λ t. (not-not-iff (exists s p) .1 t, refl)))
+    Iff·trans (done-iff (linkChange s p .taken))
+    (rw outcome-taken
+    (simp (check-map takenNumber)
+    (Iff·trans (none-given (not (exists s p) ∷ []) 7 (omega arith))
+    (λ h. not-not-iff (exists s p) .0 (h .0), λ t. (not-not-iff (exists s p) .1 t, tt)))))

@@ -1,19 +1,21 @@
 -- When a start gives a device, and what that device is, in plain logic. Assumes nothing.
 use Prim.Native.Nat.{ℕ, _≤_, _<_}
+use native.Mathlib.Omega.{arith}
 use mathlib.Core.Path.{_≡_}
 use mathlib.Core.Logic.{_↔_, Iff·trans}
 use mathlib.Core.Bool.{not}
-use mathlib.Core.List.{List}
+use mathlib.Core.List.{List, [], _∷_}
 use lib.Dec.{T}
 use lib.ListN.{getD}
-use Rattle.model.specs.declared.House.the-variants.{PhyNumber, PhyGroup, IllegalTable}
 use Rattle.model.specs.declared.Taken.the-variants.{Done}
+use Rattle.model.specs.House.{takenNumber}
 use Rattle.model.specs.Shelf.{phyAt, noPhy, freshPhy, startGroup, freshShelf, startTaken}
 use Rattle.model.specs.Tests.{within, allBelow}
 use Rattle.model.specs.Zone.{zoneGroup, legalTable}
-use Rattle.model.proofs.Laws.Checks.{none-given-iff, unless-iff}
+use Rattle.model.proofs.Laws.Checks.{unless-iff, done-iff}
 use Rattle.model.proofs.Laws.Join.{join-at}
-use Rattle.model.proofs.Laws.Tests.{within-iff, leb-iff, allBelow-iff}
+use Rattle.model.proofs.Laws.Lowest.{none-given}
+use Rattle.model.proofs.Laws.Tests.{within-iff, leb-iff, allBelow-iff, check-map}
 use Rattle.model.proofs.Plain.Zone.{LegalTable, legal-table}
 
 -- none of H1, H2 and H3 applies
@@ -32,15 +34,19 @@ groups-iff n groups =
 pub start-done : (n : ℕ) (groups table : List ℕ) → (startTaken n groups table ≡ Done) ↔ Startable n groups table
 unfolding startTaken
 start-done n groups table =
-    Iff·trans
-    (none-given-iff (not (within 1 24 n)) (not (allBelow n (λ p. zoneGroup (getD groups p 0)))) (not (legalTable table))
-    PhyNumber
-    PhyGroup
-    IllegalTable
-    (unless-iff (within 1 24 n) (within-iff 1 24 n))
-    (unless-iff (allBelow n (λ p. zoneGroup (getD groups p 0))) (groups-iff n groups))
-    (unless-iff (legalTable table) (legal-table table)))
-    (λ p. record { number = p .0; groups-fit = p .1; legal = p .2 }, λ r. (r .number, r .groups-fit, r .legal))
+    let number = unless-iff (within 1 24 n) (within-iff 1 24 n) in
+    let fit = unless-iff (allBelow n (λ p. zoneGroup (getD groups p 0))) (groups-iff n groups) in
+    let legal = unless-iff (legalTable table) (legal-table table) in
+    Iff·trans (done-iff (startTaken n groups table))
+    (simp (check-map takenNumber)
+    (Iff·trans
+    (none-given
+    (not (within 1 24 n) ∷ not (allBelow n (λ p. zoneGroup (getD groups p 0))) ∷ not (legalTable table) ∷ [])
+    1
+    (omega arith)) (
+      λ h. record { number = number .0 (h .0); groups-fit = fit .0 (h .1 .0); legal = legal .0 (h .1 .1 .0) },
+      λ r. (number .1 (r .number), (fit .1 (r .groups-fit), (legal .1 (r .legal), tt))),
+    )))
 
 -- the device: phy p has the group that was given for it, and is fresh; past the phy number the group is 0
 pub fresh-phys : (n : ℕ) (groups table identifier : List ℕ) (p : ℕ) → p < 24
