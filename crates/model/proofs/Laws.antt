@@ -1,13 +1,17 @@
 -- Laws of the definitions, for proofs to cite.
+
+-- the small words, lists and numbers
 pub mod Tests
-pub mod Checks
 pub mod Bits
 pub mod Rising
 pub mod Join
 pub mod Picked
+pub mod Places
+-- rows of refusals and of results, and what is known of what passed them
+pub mod Lowest
+pub mod Drawn
+pub mod Checks
+-- a request's whole way, what a phy's changes keep, and what every operation keeps
 pub mod Handled
 pub mod PhyChanges
 pub mod Steps
-pub mod Lowest
-pub mod Drawn
-pub mod Places
