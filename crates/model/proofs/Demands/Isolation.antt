@@ -6,8 +6,8 @@
 -- What an operation is, and what a group gets in a run, is in `specs/Runs`; what is crossed out is in `specs/CrossedOut`, and checked
 -- cases say what that is. The proof goes by what a shelf looks like to a group (`Looks`): each operation looks the same on two shelves
 -- that look the same (`OneOperation`), a crossed-out one is not seen (`Unseen`), so a run's answers are those of what remains of it (`Remains`).
--- `OnShelfW` shows that this is no empty talk, and why link resets, disables and link changes must stay. What demand 3 leaves open, that
--- a stranger's own requests do nothing and tell him nothing, is in `Strangers`.
+-- `OnShelfW` shows that this is no empty talk, and why link resets, disables and link changes must stay. What demand 3 leaves open, what
+-- a stranger's own requests do to the shelf and tell him, is in `Strangers`.
 use Prim.Native.Nat.{ℕ}
 use mathlib.Core.Path.{_≡_, sym, ap, _∙_}
 use mathlib.Core.List.{List}

@@ -1,6 +1,6 @@
 -- What a stranger does and learns: demand 3 says nothing of that by itself. A request about a phy that its source does not reach leaves
--- the shelf, and its answer tells nothing of what was sent; no request changes a phy out of its source's reach; a report changes its own
--- phy alone. Assumes nothing.
+-- the shelf, and its answer depends on the function, the length, the count and the phy's existence, so it tells nothing of its contents;
+-- no request changes a phy out of its source's reach; a report changes its own phy alone. Assumes nothing.
 use Prim.Native.Nat.{ℕ, _≤_}
 use native.Mathlib.Nat.{eq-zero-or-pos}
 use native.Mathlib.Omega.{arith}

@@ -48,7 +48,7 @@ crossed =
     ∷ (32, Event 3 0x01 1)
     ∷ []
 
--- "Link resets, disables and link changes stay." "All other requests, and the device notices, stay in both runs."
+-- "Link resets, disables and link changes stay .." "All other requests, and the device notices, stay in both runs."
 unfoldable pub stay : List (ℕ × Operation)
 stay =
     -- link resets and disables, 01h and 03h, also of twelve bytes
