@@ -17,17 +17,17 @@ use Rattle.model.specs.Tests.{given}
 unfoldable pub amountTooLarge : ℕ → ℕ → Bool
 amountTooLarge source amount = eqb source 0x2B && ltb 0xFF amount || eqb source 0x2C && ltb 0xFFFF amount
 
--- H7 "phy does not exist", H8 "event source 00h or unsupported", H9
-unfoldable pub eventTaken : Shelf → ℕ → ℕ → ℕ → Taken
-eventTaken s p source amount =
-    given (not (exists s p)) (NotDone NoSuchPhy)
+-- H7 "phy does not exist", H8 "event source 00h or unsupported", H9; the first argument says whether the phy exists
+unfoldable pub eventTaken : Bool → ℕ → ℕ → Taken
+eventTaken there source amount =
+    given (not there) (NotDone NoSuchPhy)
     (given (eqb source 0x00 || not (supported source)) (NotDone EventSource)
     (given (amountTooLarge source amount) (NotDone Amount)
     Done))
 
 unfoldable pub event : Shelf → ℕ → ℕ → ℕ → Outcome
 event s p source amount =
-    outcome (eventTaken s p source amount) s (put s p (eventOn source amount (phyAt s p)) (s .changes))
+    outcome (eventTaken (exists s p) source amount) s (put s p (eventOn source amount (phyAt s p)) (s .changes))
 
 -- A link change originates Change, whether or not the phy is enabled, and moves the change count.
 unfoldable pub linkChange : Shelf → ℕ → Outcome

@@ -75,7 +75,7 @@ next-together s operation = step-together s (next s operation) (next-step Change
 pub event-count : (s : Shelf) (p source amount : ℕ) → event s p source amount .shelf .changes ≡ s .changes
 unfolding event
 event-count s p source amount =
-    every-outcome (λ t. t .changes ≡ s .changes) (eventTaken s p source amount) s _ refl (λ done. refl)
+    every-outcome (λ t. t .changes ≡ s .changes) (eventTaken (exists s p) source amount) s _ refl (λ done. refl)
 
 pub notices-count : (s : Shelf) → (reducedFunctionality s .changes ≡ s .changes) × (sesNotice s .changes ≡ s .changes)
 unfolding reducedFunctionality sesNotice

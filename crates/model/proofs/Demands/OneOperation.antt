@@ -135,7 +135,7 @@ module _ (g : ℕ) (s : Shelf) where
   unfolding next event eventTaken linkChange reducedFunctionality sesNotice
   looks-next (Ask h frame out) = looks-handle h frame (length out)
   looks-next (Event p source amount) =
-      looks-outcome (eventTaken s p source amount) _ _
+      looks-outcome (eventTaken (exists s p) source amount) _ _
       (looks-change g s p (eventOn source amount) (λ b. b) (λ x. s .changes) (event-inner source amount) (λ x. refl))
   looks-next (LinkChange p) =
       looks-outcome (given (not (exists s p)) (NotDone NoSuchPhy) Done) _ _

@@ -118,7 +118,7 @@ pub every-event : (s : Shelf) (p source amount : ℕ)
     → TakenEnds (eventRefusals s p source amount) 7 s (put s p (eventOn source amount (phyAt s p)) (s .changes)) (event s p source amount)
 unfolding event
 every-event s p source amount =
-    every-taken (eventRefusals s p source amount) 7 (eventTaken s p source amount) s _ (event-gives s p source amount)
+    every-taken (eventRefusals s p source amount) 7 (eventTaken (exists s p) source amount) s _ (event-gives s p source amount)
 
 pub every-link-change : (s : Shelf) (p : ℕ)
     → TakenEnds (phyRefusal s p ∷ []) 7 s (put s p (changeOn (phyAt s p .enabled) (phyAt s p)) (originate (s .changes))) (linkChange s p)

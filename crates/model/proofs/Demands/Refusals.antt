@@ -160,7 +160,7 @@ request-refusal s g frame out =
 pub event-refusal : (s : Shelf) (p source amount : ℕ) → 1 ≤ takenNumber (event s p source amount .taken)
     → event s p source amount .shelf ≡ s
 unfolding event
-event-refusal s p source amount = rw outcome-taken (outcome-stays (eventTaken s p source amount) s _)
+event-refusal s p source amount = rw outcome-taken (outcome-stays (eventTaken (exists s p) source amount) s _)
 
 pub link-change-refusal : (s : Shelf) (p : ℕ) → 1 ≤ takenNumber (linkChange s p .taken) → linkChange s p .shelf ≡ s
 unfolding linkChange

@@ -132,7 +132,7 @@ request-elsewhere s g frame out q unreached =
 pub event-only : (s : Shelf) (p source amount : ℕ) → OnlyPhy s p (event s p source amount .shelf)
 unfolding event
 event-only s p source amount =
-    every-outcome (OnlyPhy s p) (eventTaken s p source amount) s _ (same-only s p) (λ done. put-only s p _ _)
+    every-outcome (OnlyPhy s p) (eventTaken (exists s p) source amount) s _ (same-only s p) (λ done. put-only s p _ _)
 
 pub link-change-only : (s : Shelf) (p : ℕ) → OnlyPhy s p (linkChange s p .shelf)
 unfolding linkChange

@@ -16,7 +16,7 @@ use Rattle.model.specs.Reach.{reaches}
 use Rattle.model.specs.Reports.{eventTaken, event}
 use Rattle.model.specs.Request.{functionOf, asked}
 use Rattle.model.specs.Runs.{Operation, Ask, Event, LinkChange, ReducedFunctionality, Ses, QueryReach, next, told}
-use Rattle.model.specs.Shelf.{phyAt}
+use Rattle.model.specs.Shelf.{exists, phyAt}
 use Rattle.model.specs.Writes.{controlled, controlChanges, configured, effect}
 use Rattle.model.specs.Zone.{bit}
 use Rattle.model.proofs.Demands.Looks.{looks, looks-stays}
@@ -84,7 +84,7 @@ module _ (g : ℕ) (s : Shelf) where
       handled-all (λ x. looks g (x .shelf) ≡ looks g s) s h frame (length out) (λ house. refl) refl
       (λ e. unseen-effect h frame (crossed-request-iff g s h frame out .0 t))
   crossed-unseen (Event p source amount) t =
-      every-outcome (λ t. looks g t ≡ looks g s) (eventTaken s p source amount) s _ refl
+      every-outcome (λ t. looks g t ≡ looks g s) (eventTaken (exists s p) source amount) s _ refl
       (λ done.
       looks-stays g s p (eventOn source amount) (event-inner source amount)
       (is-false (reaches s g p) (crossed-event-iff g s p source amount .0 t .1)))

@@ -66,7 +66,7 @@ module _ (Keeps : (Phy → Phy) → (Phy → Bool) → Type 0) (s : Shelf) where
       handled-all (λ h. Step Keeps s (h .shelf)) s g frame (length out) (λ house. Stays refl) (Stays refl)
       (λ e. effect-step g frame out (asked frame) keeps (accepted-decided s g frame e .2))
   next-step (Event p source amount) keeps =
-      every-outcome (Step Keeps s) (eventTaken s p source amount) s _ (Stays refl)
+      every-outcome (Step Keeps s) (eventTaken (exists s p) source amount) s _ (Stays refl)
       (λ done. Moves p (eventOn source amount) (λ x. false) (event-done s p source amount .0 done .phy-exists) keeps refl)
   next-step (LinkChange p) keeps =
       every-outcome (Step Keeps s) (given (not (exists s p)) (NotDone NoSuchPhy) Done) s _ (Stays refl)

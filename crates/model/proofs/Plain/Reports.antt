@@ -62,11 +62,11 @@ amounts-iff source amount = (
 )
 
 pub event-done : (s : Shelf) (p source amount : ℕ)
-    → (eventTaken s p source amount ≡ Done)
+    → (eventTaken (exists s p) source amount ≡ Done)
     ↔ Reportable s p source amount
 unfolding eventTaken
 event-done s p source amount =
-    Iff·trans (done-iff (eventTaken s p source amount))
+    Iff·trans (done-iff (eventTaken (exists s p) source amount))
     (simp (check-map takenNumber)
     (Iff·trans
     (none-given

@@ -1,0 +1,2 @@
+-- What the C firmware is told.
+pub mod FrameNumber

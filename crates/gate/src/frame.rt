@@ -1,0 +1,145 @@
+// The frame judge: one request frame alone, with no shelf.
+use crate::bytes::{byte_at, word_of};
+use crate::numbers::{house_number, result_code};
+use model::{FunctionResult, House, Judged, Request};
+
+ghost use mathlib.Core.Path.{_≡_};
+ghost use Prim.Native.Nat.{_+_, _*_};
+ghost use mathlib.Core.Bool.{_&&_};
+ghost use mathlib.Core.List.{[], _∷_};
+ghost use lib.Dec.{eqb};
+ghost use lib.ListN.{length};
+ghost use Rattle.model.specs.Bytes.{byte};
+ghost use Rattle.model.specs.Request.{badFrame, known, lengthRight, asked, judge};
+ghost use Rattle.model.specs.Tests.{oneOf};
+ghost use Rattle.gate.specs.FrameNumber.{housePart, resultPart, frameNumber};
+
+// H6: "request under 4 bytes, or first byte not 40h"
+fn bad_frame(frame: &[u8]) -> bool
+    ensures { λ r. ⌜ r ≡ badFrame (now (frame .entry)) ⌝ }
+{
+    (frame.len() < 4) | (byte_at(frame, 0) != 0x40)
+}
+
+// Not 01h: "not 00h, 01h, 06h, 11h, 14h, 91h or 93h"
+fn known_function(function: u8) -> bool
+    ensures { λ r. ⌜ r ≡ known function ⌝ }
+{
+    (function == 0x00)
+        | (function == 0x01)
+        | (function == 0x06)
+        | (function == 0x11)
+        | (function == 0x14)
+        | (function == 0x91)
+        | (function == 0x93)
+}
+
+// 93h: "request 12 + 8d bytes, length 2 + 2d, d in byte 11", as exact numbers
+fn configure_length_right(frame: &[u8]) -> bool
+    ensures { λ r. ⌜ r ≡ (eqb (length (now (frame .entry))) (12 + 8 * byte (now (frame .entry)) 11) && oneOf ((2 + 2 * byte (now (frame .entry)) 11) ∷ []) (byte (now (frame .entry)) 3)) ⌝ }
+{
+    let d = byte_at(frame, 11) as usize;
+    (frame.len() == 12 + 8 * d) & (byte_at(frame, 3) as usize == 2 + 2 * d)
+}
+
+// Not 03h: "byte 3 or the frame's true length is not as below"
+fn length_right(frame: &[u8]) -> bool
+    ensures { λ r. ⌜ r ≡ lengthRight (now (frame .entry)) ⌝ }
+{
+    let function = byte_at(frame, 1);
+    let length = byte_at(frame, 3);
+    let size = frame.len();
+    match function {
+        0x00 => (size == 4) & (length == 0x00),
+        0x01 => (size == 4) & (length == 0x00),
+        0x06 => (size == 4) & (length == 0x00),
+        0x11 => (size == 12) & ((length == 0x02) | (length == 0x00)),
+        0x14 => (size == 12) & (length == 0x02),
+        0x91 => (size == 40) & ((length == 0x09) | (length == 0x00)),
+        0x93 => configure_length_right(frame),
+        _ => false,
+    }
+}
+
+// What a frame of a known function and a right length asks.
+fn asked_by(frame: &[u8]) -> Request
+    ensures { λ r. ⌜ r ≡ asked (now (frame .entry)) ⌝ }
+{
+    let function = byte_at(frame, 1);
+    match function {
+        0x00 => Request::ReportGeneral,
+        0x01 => Request::ReportManufacturer,
+        0x06 => Request::ReportBroadcast {
+            kind: byte_at(frame, 2),
+        },
+        0x11 => Request::ReportPhyErrorLog {
+            phy: byte_at(frame, 9),
+        },
+        0x14 => Request::ReportPhyEvent {
+            phy: byte_at(frame, 9),
+        },
+        0x91 => Request::PhyControl {
+            expected: word_of(byte_at(frame, 4), byte_at(frame, 5)),
+            phy: byte_at(frame, 9),
+            operation: byte_at(frame, 10),
+        },
+        _ => Request::ConfigurePhyEvent {
+            expected: word_of(byte_at(frame, 4), byte_at(frame, 5)),
+            clear: byte_at(frame, 6) % 2 == 1,
+            phy: byte_at(frame, 9),
+            number: byte_at(frame, 11),
+        },
+    }
+}
+
+// Judging one request frame alone: the read request, or H6, 01h or 03h.
+pub fn judge_request(frame: &[u8]) -> Judged
+    ensures { λ r. ⌜ r ≡ judge (now (frame .entry)) ⌝ }
+{
+    if bad_frame(frame) {
+        return Judged::NoFrame(House::BadFrame);
+    }
+    if !known_function(byte_at(frame, 1)) {
+        return Judged::Fails(FunctionResult::UnknownSmpFunction);
+    }
+    if !length_right(frame) {
+        return Judged::Fails(FunctionResult::InvalidRequestFrameLength);
+    }
+    Judged::Asked(asked_by(frame))
+}
+
+// The number of a judgement's house refusal, or 0 where there is none.
+fn house_part(judged: Judged) -> u32
+    ensures { λ r. ⌜ r ≡ housePart judged ⌝ }
+{
+    match judged {
+        Judged::Asked(_) => 0,
+        Judged::NoFrame(house) => house_number(house),
+        Judged::Fails(_) => 0,
+    }
+}
+
+// The code of a judgement's failed result, or 00h where there is none.
+fn result_part(judged: Judged) -> u8
+    ensures { λ r. ⌜ r ≡ resultPart judged ⌝ }
+{
+    match judged {
+        Judged::Asked(_) => 0x00,
+        Judged::NoFrame(_) => 0x00,
+        Judged::Fails(result) => result_code(result),
+    }
+}
+
+// What the C firmware is told of a frame: the function and H6, 01h, 03h or nothing wrong, as one
+// number in four parts.
+#[no_mangle]
+pub extern "C" fn smp_judge_frame(frame: &[u8]) -> u32
+    ensures { λ r. ⌜ r ≡ frameNumber (now (frame .entry)) ⌝ }
+{
+    let judged = judge_request(frame);
+    let fault = house_part(judged) * 0x10000 + (result_part(judged) as u32) * 0x100;
+    if frame.len() < 4 {
+        return fault;
+    }
+    0x1000000 + fault + (byte_at(frame, 1) as u32)
+}

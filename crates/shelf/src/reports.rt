@@ -1,0 +1,95 @@
+// The reports: "An event report names phy, source and a 32-bit amount." "Other reports: a link change
+// on a phy (Change), and two device notices (Expander 3h, SES)."
+use crate::counts::originated;
+use crate::phy::{phy_change, phy_event};
+use crate::sources::is_supported;
+use model::{House, Outcome, Shelf, Taken};
+
+ghost use mathlib.Core.Path.{_≡_};
+ghost use Prim.Native.Nat.{min};
+ghost use lib.Dec.{ltb};
+ghost use Rattle.model.specs.Reports.{amountTooLarge, eventTaken, event, linkChange};
+ghost use Rattle.model.specs.Reports.{reducedFunctionality, sesNotice};
+
+// Phy p exists on a shelf of this phy number: "1 to 24 phys, numbered from 0."
+pub fn phy_exists(number: u32, p: u32) -> bool
+    ensures { λ r. ⌜ r ≡ ltb p (min number 24) ⌝ }
+{
+    (p < number) & (p < 24)
+}
+
+// H9: "amount above FFh for 2Bh, or above FFFFh for 2Ch"
+fn amount_too_large(source: u32, amount: u32) -> bool
+    ensures { λ r. ⌜ r ≡ amountTooLarge source amount ⌝ }
+{
+    (source == 0x2B) & (0xFF < amount) | (source == 0x2C) & (0xFFFF < amount)
+}
+
+// What an event report is told, on a phy that exists or does not: H7, H8, H9 or done.
+pub fn event_taken(there: bool, source: u32, amount: u32) -> Taken
+    ensures { λ r. ⌜ r ≡ eventTaken there source amount ⌝ }
+{
+    if !there {
+        return Taken::NotDone(House::NoSuchPhy);
+    }
+    if (source == 0x00) | !is_supported(source) {
+        return Taken::NotDone(House::EventSource);
+    }
+    if amount_too_large(source, amount) {
+        return Taken::NotDone(House::Amount);
+    }
+    Taken::Done
+}
+
+pub fn report_event(shelf: Shelf, phy: u32, source: u32, amount: u32) -> Outcome
+    ensures { λ r. ⌜ r ≡ event shelf phy source amount ⌝ }
+{
+    let taken = event_taken(phy_exists(shelf.number, phy), source, amount);
+    let Taken::Done = taken else {
+        return Outcome { taken, shelf };
+    };
+    let p = phy as usize;
+    let before = shelf.phys[p];
+    let mut after = shelf;
+    after.phys[p] = phy_event(source, amount, before);
+    Outcome {
+        taken: Taken::Done,
+        shelf: after,
+    }
+}
+
+pub fn report_link_change(shelf: Shelf, phy: u32) -> Outcome
+    ensures { λ r. ⌜ r ≡ linkChange shelf phy ⌝ }
+{
+    if !phy_exists(shelf.number, phy) {
+        return Outcome {
+            taken: Taken::NotDone(House::NoSuchPhy),
+            shelf,
+        };
+    }
+    let p = phy as usize;
+    let before = shelf.phys[p];
+    let mut after = shelf;
+    after.phys[p] = phy_change(before.enabled, before);
+    after.changes = originated(shelf.changes);
+    Outcome {
+        taken: Taken::Done,
+        shelf: after,
+    }
+}
+
+pub fn report_reduced_functionality(shelf: Shelf) -> Shelf
+    ensures { λ r. ⌜ r ≡ reducedFunctionality shelf ⌝ }
+{
+    let mut after = shelf;
+    after.expander3 = originated(shelf.expander3);
+    after
+}
+
+pub fn report_ses(shelf: Shelf) -> Shelf
+    ensures { λ r. ⌜ r ≡ sesNotice shelf ⌝ }
+{
+    let mut after = shelf;
+    after.ses0 = originated(shelf.ses0);
+    after
+}
