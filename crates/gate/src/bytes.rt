@@ -7,11 +7,7 @@ ghost use Rattle.model.specs.Bytes.{byte};
 pub fn byte_at(frame: &[u8], i: usize) -> u8
     ensures { λ r. ⌜ r ≡ byte (now (frame .entry)) i ⌝ }
 {
-    if i < frame.len() {
-        frame[i]
-    } else {
-        0x00
-    }
+    if i < frame.len() { frame[i] } else { 0x00 }
 }
 
 // "Numbers on the wire are big-endian": the number that two bytes stand for.

@@ -1,17 +1,14 @@
 // The frame judge: one request frame alone, with no shelf.
-use crate::bytes::{byte_at, word_of};
-use crate::numbers::{house_number, result_code};
-use model::{FunctionResult, House, Judged, Request};
-
+use crate::bytes::byte_at;
+use crate::bytes::word_of;
+use crate::numbers::house_number;
+use crate::numbers::result_code;
+use model::FunctionResult;
+use model::House;
+use model::Judged;
+use model::Request;
 ghost use mathlib.Core.Path.{_≡_};
-ghost use Prim.Native.Nat.{_+_, _*_};
-ghost use mathlib.Core.Bool.{_&&_};
-ghost use mathlib.Core.List.{[], _∷_};
-ghost use lib.Dec.{eqb};
-ghost use lib.ListN.{length};
-ghost use Rattle.model.specs.Bytes.{byte};
 ghost use Rattle.model.specs.Request.{badFrame, known, lengthRight, asked, judge};
-ghost use Rattle.model.specs.Tests.{oneOf};
 ghost use Rattle.gate.specs.FrameNumber.{housePart, resultPart, frameNumber};
 
 // H6: "request under 4 bytes, or first byte not 40h"
@@ -22,7 +19,7 @@ fn bad_frame(frame: &[u8]) -> bool
 }
 
 // Not 01h: "not 00h, 01h, 06h, 11h, 14h, 91h or 93h"
-fn known_function(function: u8) -> bool
+fn known(function: u8) -> bool
     ensures { λ r. ⌜ r ≡ known function ⌝ }
 {
     (function == 0x00)
@@ -34,20 +31,14 @@ fn known_function(function: u8) -> bool
         | (function == 0x93)
 }
 
-// 93h: "request 12 + 8d bytes, length 2 + 2d, d in byte 11", as exact numbers
-fn configure_length_right(frame: &[u8]) -> bool
-    ensures { λ r. ⌜ r ≡ (eqb (length (now (frame .entry))) (12 + 8 * byte (now (frame .entry)) 11) && oneOf ((2 + 2 * byte (now (frame .entry)) 11) ∷ []) (byte (now (frame .entry)) 3)) ⌝ }
-{
-    let d = byte_at(frame, 11) as usize;
-    (frame.len() == 12 + 8 * d) & (byte_at(frame, 3) as usize == 2 + 2 * d)
-}
-
-// Not 03h: "byte 3 or the frame's true length is not as below"
+// Not 03h: "byte 3 or the frame's true length is not as below". A 93h has d in byte 11, 12 + 8d bytes
+// and length 2 + 2d, as exact numbers.
 fn length_right(frame: &[u8]) -> bool
     ensures { λ r. ⌜ r ≡ lengthRight (now (frame .entry)) ⌝ }
 {
     let function = byte_at(frame, 1);
-    let length = byte_at(frame, 3);
+    let length = byte_at(frame, 3) as usize;
+    let d = byte_at(frame, 11) as usize;
     let size = frame.len();
     match function {
         0x00 => (size == 4) & (length == 0x00),
@@ -56,13 +47,13 @@ fn length_right(frame: &[u8]) -> bool
         0x11 => (size == 12) & ((length == 0x02) | (length == 0x00)),
         0x14 => (size == 12) & (length == 0x02),
         0x91 => (size == 40) & ((length == 0x09) | (length == 0x00)),
-        0x93 => configure_length_right(frame),
+        0x93 => (size == 12 + 8 * d) & (length == 2 + 2 * d),
         _ => false,
     }
 }
 
 // What a frame of a known function and a right length asks.
-fn asked_by(frame: &[u8]) -> Request
+fn asked(frame: &[u8]) -> Request
     ensures { λ r. ⌜ r ≡ asked (now (frame .entry)) ⌝ }
 {
     let function = byte_at(frame, 1);
@@ -93,23 +84,23 @@ fn asked_by(frame: &[u8]) -> Request
 }
 
 // Judging one request frame alone: the read request, or H6, 01h or 03h.
-pub fn judge_request(frame: &[u8]) -> Judged
+pub fn judge(frame: &[u8]) -> Judged
     ensures { λ r. ⌜ r ≡ judge (now (frame .entry)) ⌝ }
 {
     if bad_frame(frame) {
         return Judged::NoFrame(House::BadFrame);
     }
-    if !known_function(byte_at(frame, 1)) {
+    if !known(byte_at(frame, 1)) {
         return Judged::Fails(FunctionResult::UnknownSmpFunction);
     }
     if !length_right(frame) {
         return Judged::Fails(FunctionResult::InvalidRequestFrameLength);
     }
-    Judged::Asked(asked_by(frame))
+    Judged::Asked(asked(frame))
 }
 
 // The number of a judgement's house refusal, or 0 where there is none.
-fn house_part(judged: Judged) -> u32
+fn house_part(judged: Judged) -> u8
     ensures { λ r. ⌜ r ≡ housePart judged ⌝ }
 {
     match judged {
@@ -136,8 +127,8 @@ fn result_part(judged: Judged) -> u8
 pub extern "C" fn smp_judge_frame(frame: &[u8]) -> u32
     ensures { λ r. ⌜ r ≡ frameNumber (now (frame .entry)) ⌝ }
 {
-    let judged = judge_request(frame);
-    let fault = house_part(judged) * 0x10000 + (result_part(judged) as u32) * 0x100;
+    let judged = judge(frame);
+    let fault = (house_part(judged) as u32) * 0x10000 + (result_part(judged) as u32) * 0x100;
     if frame.len() < 4 {
         return fault;
     }

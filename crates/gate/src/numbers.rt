@@ -1,11 +1,11 @@
 // The numbers that document 01 gives the house refusals and the function results.
-use model::{FunctionResult, House};
-
+use model::FunctionResult;
+use model::House;
 ghost use mathlib.Core.Path.{_≡_};
 ghost use Rattle.model.specs.House.{houseNumber};
 ghost use Rattle.model.specs.Results.{resultCode};
 
-pub fn house_number(house: House) -> u32
+pub fn house_number(house: House) -> u8
     ensures { λ r. ⌜ r ≡ houseNumber house ⌝ }
 {
     match house {

@@ -3,14 +3,10 @@ ghost use mathlib.Core.Path.{_≡_};
 ghost use Rattle.model.specs.Counting.{originate, addWrapping, addSaturating};
 
 // "Originating adds one to that count; FFFFh goes to 0001h."
-pub fn originated(count: u16) -> u16
+pub fn originate(count: u16) -> u16
     ensures { λ r. ⌜ r ≡ originate count ⌝ }
 {
-    if count == 0xFFFF {
-        0x0001
-    } else {
-        count + 1
-    }
+    if count == 0xFFFF { 0x0001 } else { count + 1 }
 }
 
 // "counting values wrap at 32 bits"

@@ -1,8 +1,10 @@
 // What a report does to the numbers of one phy.
-use crate::counts::{add_saturating, add_wrapping, originated};
-use crate::sources::is_peak;
-use model::{Monitor, Phy};
-
+use crate::counts::add_saturating;
+use crate::counts::add_wrapping;
+use crate::counts::originate;
+use crate::sources::peak;
+use model::Monitor;
+use model::Phy;
 ghost use mathlib.Core.Path.{_≡_};
 ghost use Prim.Native.Nat.{max};
 ghost use mathlib.Core.Bool.{cond};
@@ -13,14 +15,14 @@ ghost use Rattle.model.specs.Sources.{peak};
 fn value_after(source: u32, amount: u32, value: u32) -> u32
     ensures { λ r. ⌜ r ≡ cond (peak source) (max value amount) (addWrapping value amount) ⌝ }
 {
-    if !is_peak(source) {
+    if !peak(source) {
         return add_wrapping(value, amount);
     }
     if value < amount { amount } else { value }
 }
 
 // "Each of the phy's monitors on that source changes"
-fn counted_monitor(source: u32, amount: u32, before: Monitor) -> Monitor
+fn counted(source: u32, amount: u32, before: Monitor) -> Monitor
     ensures { λ r. ⌜ r ≡ counted source amount before ⌝ }
 {
     if before.source as u32 != source {
@@ -34,18 +36,18 @@ fn counted_monitor(source: u32, amount: u32, before: Monitor) -> Monitor
 }
 
 // "A peak that a report takes from below its threshold to it or above"
-fn is_crossing(before: Monitor, after: u32) -> bool
+fn crosses(before: Monitor, after: u32) -> bool
     ensures { λ r. ⌜ r ≡ crosses before after ⌝ }
 {
-    is_peak(before.source as u32) & (before.value < before.threshold) & (before.threshold <= after)
+    peak(before.source as u32) & (before.value < before.threshold) & (before.threshold <= after)
 }
 
 // ".. originates Expander 1h, once per monitor": the count after one monitor
 fn crossing_count(before: Monitor, after: u32, count: u16) -> u16
     ensures { λ r. ⌜ r ≡ cond (crosses before after) (originate count) count ⌝ }
 {
-    if is_crossing(before, after) {
-        originated(count)
+    if crosses(before, after) {
+        originate(count)
     } else {
         count
     }
@@ -64,17 +66,17 @@ fn add_error(source: u32, amount: u32, errors: [u32; 4]) -> [u32; 4]
 }
 
 // An event report, on the phy that it names.
-pub fn phy_event(source: u32, amount: u32, before: Phy) -> Phy
+pub fn event_on(source: u32, amount: u32, before: Phy) -> Phy
     ensures { λ r. ⌜ r ≡ eventOn source amount before ⌝ }
 {
     let m0 = before.monitors[0];
     let m1 = before.monitors[1];
     let m2 = before.monitors[2];
     let m3 = before.monitors[3];
-    let n0 = counted_monitor(source, amount, m0);
-    let n1 = counted_monitor(source, amount, m1);
-    let n2 = counted_monitor(source, amount, m2);
-    let n3 = counted_monitor(source, amount, m3);
+    let n0 = counted(source, amount, m0);
+    let n1 = counted(source, amount, m1);
+    let n2 = counted(source, amount, m2);
+    let n3 = counted(source, amount, m3);
     let c0 = crossing_count(m0, n0.value, before.expander1);
     let c1 = crossing_count(m1, n1.value, c0);
     let c2 = crossing_count(m2, n2.value, c1);
@@ -92,7 +94,7 @@ pub fn phy_event(source: u32, amount: u32, before: Phy) -> Phy
 }
 
 // A phy that originates Change, left enabled or not.
-pub fn phy_change(enabled: bool, before: Phy) -> Phy
+pub fn change_on(enabled: bool, before: Phy) -> Phy
     ensures { λ r. ⌜ r ≡ changeOn enabled before ⌝ }
 {
     let errors = before.errors;
@@ -102,7 +104,7 @@ pub fn phy_change(enabled: bool, before: Phy) -> Phy
         enabled,
         errors,
         monitors,
-        change0: originated(before.change0),
+        change0: originate(before.change0),
         expander1: before.expander1,
         expander2: before.expander2,
     }

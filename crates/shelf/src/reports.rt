@@ -1,10 +1,13 @@
 // The reports: "An event report names phy, source and a 32-bit amount." "Other reports: a link change
 // on a phy (Change), and two device notices (Expander 3h, SES)."
-use crate::counts::originated;
-use crate::phy::{phy_change, phy_event};
-use crate::sources::is_supported;
-use model::{House, Outcome, Shelf, Taken};
-
+use crate::counts::originate;
+use crate::phy::change_on;
+use crate::phy::event_on;
+use crate::sources::supported;
+use model::House;
+use model::Outcome;
+use model::Shelf;
+use model::Taken;
 ghost use mathlib.Core.Path.{_≡_};
 ghost use Prim.Native.Nat.{min};
 ghost use lib.Dec.{ltb};
@@ -32,7 +35,7 @@ pub fn event_taken(there: bool, source: u32, amount: u32) -> Taken
     if !there {
         return Taken::NotDone(House::NoSuchPhy);
     }
-    if (source == 0x00) | !is_supported(source) {
+    if (source == 0x00) | !supported(source) {
         return Taken::NotDone(House::EventSource);
     }
     if amount_too_large(source, amount) {
@@ -41,7 +44,7 @@ pub fn event_taken(there: bool, source: u32, amount: u32) -> Taken
     Taken::Done
 }
 
-pub fn report_event(shelf: Shelf, phy: u32, source: u32, amount: u32) -> Outcome
+pub fn event(shelf: Shelf, phy: u32, source: u32, amount: u32) -> Outcome
     ensures { λ r. ⌜ r ≡ event shelf phy source amount ⌝ }
 {
     let taken = event_taken(phy_exists(shelf.number, phy), source, amount);
@@ -51,14 +54,14 @@ pub fn report_event(shelf: Shelf, phy: u32, source: u32, amount: u32) -> Outcome
     let p = phy as usize;
     let before = shelf.phys[p];
     let mut after = shelf;
-    after.phys[p] = phy_event(source, amount, before);
+    after.phys[p] = event_on(source, amount, before);
     Outcome {
         taken: Taken::Done,
         shelf: after,
     }
 }
 
-pub fn report_link_change(shelf: Shelf, phy: u32) -> Outcome
+pub fn link_change(shelf: Shelf, phy: u32) -> Outcome
     ensures { λ r. ⌜ r ≡ linkChange shelf phy ⌝ }
 {
     if !phy_exists(shelf.number, phy) {
@@ -70,26 +73,26 @@ pub fn report_link_change(shelf: Shelf, phy: u32) -> Outcome
     let p = phy as usize;
     let before = shelf.phys[p];
     let mut after = shelf;
-    after.phys[p] = phy_change(before.enabled, before);
-    after.changes = originated(shelf.changes);
+    after.phys[p] = change_on(before.enabled, before);
+    after.changes = originate(shelf.changes);
     Outcome {
         taken: Taken::Done,
         shelf: after,
     }
 }
 
-pub fn report_reduced_functionality(shelf: Shelf) -> Shelf
+pub fn reduced_functionality(shelf: Shelf) -> Shelf
     ensures { λ r. ⌜ r ≡ reducedFunctionality shelf ⌝ }
 {
     let mut after = shelf;
-    after.expander3 = originated(shelf.expander3);
+    after.expander3 = originate(shelf.expander3);
     after
 }
 
-pub fn report_ses(shelf: Shelf) -> Shelf
+pub fn ses_notice(shelf: Shelf) -> Shelf
     ensures { λ r. ⌜ r ≡ sesNotice shelf ⌝ }
 {
     let mut after = shelf;
-    after.ses0 = originated(shelf.ses0);
+    after.ses0 = originate(shelf.ses0);
     after
 }

@@ -5,26 +5,26 @@ ghost use Rattle.model.specs.Sources.{counting, peak, supported};
 ghost use Rattle.model.specs.Tests.{within};
 
 // source is one of those from low to high
-fn from_to(low: u32, high: u32, source: u32) -> bool
+fn within(low: u32, high: u32, source: u32) -> bool
     ensures { λ r. ⌜ r ≡ within low high source ⌝ }
 {
     (low <= source) & (source <= high)
 }
 
-pub fn is_counting(source: u32) -> bool
+pub fn counting(source: u32) -> bool
     ensures { λ r. ⌜ r ≡ counting source ⌝ }
 {
-    from_to(0x01, 0x06, source) | from_to(0x20, 0x2A, source) | from_to(0x40, 0x45, source)
+    within(0x01, 0x06, source) | within(0x20, 0x2A, source) | within(0x40, 0x45, source)
 }
 
-pub fn is_peak(source: u32) -> bool
+pub fn peak(source: u32) -> bool
     ensures { λ r. ⌜ r ≡ peak source ⌝ }
 {
-    from_to(0x2B, 0x2E, source)
+    within(0x2B, 0x2E, source)
 }
 
-pub fn is_supported(source: u32) -> bool
+pub fn supported(source: u32) -> bool
     ensures { λ r. ⌜ r ≡ supported source ⌝ }
 {
-    is_counting(source) | is_peak(source)
+    counting(source) | peak(source)
 }

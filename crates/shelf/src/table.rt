@@ -1,6 +1,5 @@
 // Whether a permission table is legal.
 use gate::zone::smp_row_reaches;
-
 ghost use mathlib.Core.Path.{_≡_};
 ghost use mathlib.Core.Bool.{Bool·beq};
 ghost use Rattle.model.specs.Tests.{allBelow};
@@ -18,7 +17,7 @@ fn row_symmetric(table: [u32; 32], g: u32) -> bool
     ok
 }
 
-fn is_symmetric(table: [u32; 32]) -> bool
+fn symmetric(table: [u32; 32]) -> bool
     ensures { λ r. ⌜ r ≡ symmetric table ⌝ }
 {
     let mut ok = true;
@@ -29,8 +28,8 @@ fn is_symmetric(table: [u32; 32]) -> bool
 }
 
 // "A legal table is symmetric; row 1 is all ones; row 0 has bit 1 alone."
-pub fn is_legal(table: [u32; 32]) -> bool
+pub fn legal_table(table: [u32; 32]) -> bool
     ensures { λ r. ⌜ r ≡ legalTable table ⌝ }
 {
-    is_symmetric(table) & (table[1] == 0xFFFF_FFFF) & (table[0] == 0x0000_0002)
+    symmetric(table) & (table[1] == 0xFFFF_FFFF) & (table[0] == 0x0000_0002)
 }

@@ -1,54 +1,88 @@
+-- `gate::frame::length_right` meets its contract: at each function that the definition names its own line alone is left of it, and at
+-- every other none. Assumes nothing.
 use borrow.Author.Needs.{needs}
+use borrow.Author.Tests.{ne-eqb}
+use mathlib.Core.Path.{sym, _∙_}
+use mathlib.Core.Bool.{or-false}
+use Rattle.model.specs.Request.{lengthRight}
 use Rattle.gate.proofs.frame.length_right.Statement.{statement}
 use Rattle.gate.proofs.frame.length_right.Tie as tie
-use Rattle.gate.proofs.frame.length_right.Reads as reads
-use Rattle.gate.proofs.frame.length_right.Lts as lts
-use Rattle.gate.proofs.bytes.byte_at.Reads as byte-at-reads
-use Rattle.gate.proofs.frame.configure_length_right.Reads as configure-length-right-reads
 
--- src/frame.rt:49:9
 byte-at-requires : tie.Need-byte-at-requires
 byte-at-requires c κs = search needs
 
--- src/frame.rt:50:9
 byte-at-requires-2 : tie.Need-byte-at-requires-2
 byte-at-requires-2 c κs = search needs
 
--- src/frame.rt:59:17
-configure-length-right-requires : tie.Need-configure-length-right-requires
-configure-length-right-requires c κs = search needs
+cast-length : tie.Need-cast-length
+cast-length c = search needs
 
--- src/frame.rt:46:1
+byte-at-requires-3 : tie.Need-byte-at-requires-3
+byte-at-requires-3 c κs = search needs
+
+cast-d : tie.Need-cast-d
+cast-d c = search needs
+
+mul-result : tie.Need-mul-result
+mul-result c = search needs
+
+add-result : tie.Need-add-result
+add-result c = search needs
+
+mul-result-2 : tie.Need-mul-result-2
+mul-result-2 c = search needs
+
+add-result-2 : tie.Need-add-result-2
+add-result-2 c = search needs
+
 returns : tie.Need-returns
-returns c = ?
+unfolding lengthRight
+returns c =
+    simp (sym (c .before .before .before .byte-at .ensures) ∙ c .match .keys1, c .before .before .byte-at2 .ensures, or-false)
 
--- src/frame.rt:46:1
 returns-2 : tie.Need-returns-2
-returns-2 c = ?
+unfolding lengthRight
+returns-2 c =
+    simp (sym (c .before .before .before .byte-at .ensures) ∙ c .match .keys2, c .before .before .byte-at2 .ensures, or-false)
 
--- src/frame.rt:46:1
 returns-3 : tie.Need-returns-3
-returns-3 c = ?
+unfolding lengthRight
+returns-3 c =
+    simp (sym (c .before .before .before .byte-at .ensures) ∙ c .match .keys3, c .before .before .byte-at2 .ensures, or-false)
 
--- src/frame.rt:46:1
 returns-4 : tie.Need-returns-4
-returns-4 c = ?
+unfolding lengthRight
+returns-4 c =
+    simp (sym (c .before .before .before .byte-at .ensures) ∙ c .match .keys4, c .before .before .byte-at2 .ensures, or-false)
 
--- src/frame.rt:46:1
 returns-5 : tie.Need-returns-5
-returns-5 c = ?
+unfolding lengthRight
+returns-5 c =
+    simp (sym (c .before .before .before .byte-at .ensures) ∙ c .match .keys5, c .before .before .byte-at2 .ensures, or-false)
 
--- src/frame.rt:46:1
 returns-6 : tie.Need-returns-6
-returns-6 c = ?
+unfolding lengthRight
+returns-6 c =
+    simp (sym (c .before .before .before .byte-at .ensures) ∙ c .match .keys6, c .before .before .byte-at2 .ensures, or-false)
 
--- src/frame.rt:46:1
 returns-7 : tie.Need-returns-7
-returns-7 c = ?
+unfolding lengthRight
+returns-7 c =
+    simp (sym (c .before .before .before .byte-at .ensures) ∙ c .match .keys7, c .before .before .byte-at2 .ensures, c .before .byte-at3 .ensures, or-false)
 
--- src/frame.rt:46:1
 returns-8 : tie.Need-returns-8
-returns-8 c = ?
+unfolding lengthRight
+returns-8 c =
+    simp (
+      sym (c .before .before .before .byte-at .ensures),
+      ne-eqb _ _ (c .match .rest .0 .0 .0 .0 .0 .0 .1),
+      ne-eqb _ _ (c .match .rest .0 .0 .0 .0 .0 .1),
+      ne-eqb _ _ (c .match .rest .0 .0 .0 .0 .1),
+      ne-eqb _ _ (c .match .rest .0 .0 .0 .1),
+      ne-eqb _ _ (c .match .rest .0 .0 .1),
+      ne-eqb _ _ (c .match .rest .0 .1),
+      ne-eqb _ _ (c .match .rest .1),
+    )
 
 pub length-right-spec : {M : Type 1} → statement M
 length-right-spec =
@@ -56,7 +90,13 @@ length-right-spec =
     (tie.spec
     byte-at-requires
     byte-at-requires-2
-    configure-length-right-requires
+    cast-length
+    byte-at-requires-3
+    cast-d
+    mul-result
+    add-result
+    mul-result-2
+    add-result-2
     returns
     returns-2
     returns-3

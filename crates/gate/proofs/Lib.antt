@@ -1,0 +1,2 @@
+-- Facts of the gate's own definition.
+pub mod Parts

@@ -1,0 +1,137 @@
+-- `gate::frame::asked` meets its contract: at each function the definition is left with that function's own request. Assumes nothing.
+use borrow.Author.Needs.{needs}
+use borrow.Author.Tests.{ne-eqb}
+use native.Mathlib.Nat.{div-one}
+use mathlib.Core.Path.{sym, _∙_}
+use Rattle.model.specs.Request.{asked}
+use Rattle.gate.proofs.frame.asked.Statement.{statement}
+use Rattle.gate.proofs.frame.asked.Tie as tie
+
+byte-at-requires : tie.Need-byte-at-requires
+byte-at-requires c κs = search needs
+
+byte-at-requires-2 : tie.Need-byte-at-requires-2
+byte-at-requires-2 c κs = search needs
+
+byte-at-requires-3 : tie.Need-byte-at-requires-3
+byte-at-requires-3 c κs = search needs
+
+byte-at-requires-4 : tie.Need-byte-at-requires-4
+byte-at-requires-4 c κs = search needs
+
+byte-at-requires-5 : tie.Need-byte-at-requires-5
+byte-at-requires-5 c κs = search needs
+
+byte-at-requires-6 : tie.Need-byte-at-requires-6
+byte-at-requires-6 c κs = search needs
+
+word-of-requires : tie.Need-word-of-requires
+word-of-requires c κs = search needs
+
+byte-at-requires-7 : tie.Need-byte-at-requires-7
+byte-at-requires-7 c κs = search needs
+
+byte-at-requires-8 : tie.Need-byte-at-requires-8
+byte-at-requires-8 c κs = search needs
+
+byte-at-requires-9 : tie.Need-byte-at-requires-9
+byte-at-requires-9 c κs = search needs
+
+byte-at-requires-10 : tie.Need-byte-at-requires-10
+byte-at-requires-10 c κs = search needs
+
+word-of-requires-2 : tie.Need-word-of-requires-2
+word-of-requires-2 c κs = search needs
+
+byte-at-requires-11 : tie.Need-byte-at-requires-11
+byte-at-requires-11 c κs = search needs
+
+byte-at-requires-12 : tie.Need-byte-at-requires-12
+byte-at-requires-12 c κs = search needs
+
+byte-at-requires-13 : tie.Need-byte-at-requires-13
+byte-at-requires-13 c κs = search needs
+
+returns : tie.Need-returns
+unfolding asked
+returns c =
+    rw (sym (c .before .byte-at .ensures) ∙ c .match .keys1)
+
+returns-2 : tie.Need-returns-2
+unfolding asked
+returns-2 c =
+    rw (sym (c .before .byte-at .ensures) ∙ c .match .keys2)
+
+returns-3 : tie.Need-returns-3
+unfolding asked
+returns-3 c =
+    rw (sym (c .before .before .byte-at .ensures) ∙ c .before .match .keys3, c .byte-at2 .ensures)
+
+returns-4 : tie.Need-returns-4
+unfolding asked
+returns-4 c =
+    rw (sym (c .before .before .byte-at .ensures) ∙ c .before .match .keys4, c .byte-at3 .ensures)
+
+returns-5 : tie.Need-returns-5
+unfolding asked
+returns-5 c =
+    rw (sym (c .before .before .byte-at .ensures) ∙ c .before .match .keys5, c .byte-at4 .ensures)
+
+returns-6 : tie.Need-returns-6
+unfolding asked
+returns-6 c =
+    rw (
+      sym (c .before .before .before .before .before .before .byte-at .ensures) ∙ c .before .before .before .before .before .match .keys6,
+      c .before .before .word-of .ensures,
+      c .before .before .before .before .byte-at5 .ensures,
+      c .before .before .before .byte-at6 .ensures,
+      c .before .byte-at7 .ensures,
+      c .byte-at8 .ensures,
+    )
+
+returns-7 : tie.Need-returns-7
+unfolding asked
+returns-7 c =
+    simp (
+      sym (c .before .before .before .before .before .before .before .byte-at .ensures),
+      ne-eqb _ _ (c .before .before .before .before .before .before .match .rest .0 .0 .0 .0 .0 .1),
+      ne-eqb _ _ (c .before .before .before .before .before .before .match .rest .0 .0 .0 .0 .1),
+      ne-eqb _ _ (c .before .before .before .before .before .before .match .rest .0 .0 .0 .1),
+      ne-eqb _ _ (c .before .before .before .before .before .before .match .rest .0 .0 .1),
+      ne-eqb _ _ (c .before .before .before .before .before .before .match .rest .0 .1),
+      ne-eqb _ _ (c .before .before .before .before .before .before .match .rest .1),
+      c .before .before .before .word-of2 .ensures,
+      c .before .before .before .before .before .byte-at9 .ensures,
+      c .before .before .before .before .byte-at10 .ensures,
+      c .before .before .byte-at11 .ensures,
+      c .before .byte-at12 .ensures,
+      c .byte-at13 .ensures,
+      div-one,
+    )
+
+pub asked-spec : {M : Type 1} → statement M
+asked-spec =
+    tie.close
+    (tie.spec
+    byte-at-requires
+    byte-at-requires-2
+    byte-at-requires-3
+    byte-at-requires-4
+    byte-at-requires-5
+    byte-at-requires-6
+    word-of-requires
+    byte-at-requires-7
+    byte-at-requires-8
+    byte-at-requires-9
+    byte-at-requires-10
+    word-of-requires-2
+    byte-at-requires-11
+    byte-at-requires-12
+    byte-at-requires-13
+    returns
+    returns-2
+    returns-3
+    returns-4
+    returns-5
+    returns-6
+    returns-7)
