@@ -6,10 +6,20 @@ use crate::sources::peak;
 use model::Monitor;
 use model::Phy;
 ghost use mathlib.Core.Path.{_≡_};
-ghost use Prim.Native.Nat.{max};
+ghost use Prim.Native.Nat.{max, min};
 ghost use mathlib.Core.Bool.{cond};
-ghost use Rattle.model.specs.Counting.{originate, addWrapping, counted, crosses, addError, eventOn, changeOn};
+ghost use mathlib.Core.List.{map};
+ghost use lib.Dec.{ltb};
+ghost use Rattle.model.specs.Counting.{originate, addWrapping, counted, crosses};
+ghost use Rattle.model.specs.Counting.{originateCrossings, addError, eventOn, changeOn};
 ghost use Rattle.model.specs.Sources.{peak};
+
+// Phy p exists on a shelf of this phy number: "1 to 24 phys, numbered from 0."
+pub fn exists(number: u32, p: u32) -> bool
+    ensures { λ r. ⌜ r ≡ ltb p (min number 24) ⌝ }
+{
+    (p < number) & (p < 24)
+}
 
 // "counting values wrap at 32 bits, peaks keep the larger"
 fn value_after(source: u32, amount: u32, value: u32) -> u32
@@ -43,14 +53,37 @@ fn crosses(before: Monitor, after: u32) -> bool
 }
 
 // ".. originates Expander 1h, once per monitor": the count after one monitor
-fn crossing_count(before: Monitor, after: u32, count: u16) -> u16
-    ensures { λ r. ⌜ r ≡ cond (crosses before after) (originate count) count ⌝ }
+fn originate_crossing(source: u32, amount: u32, before: Monitor, count: u16) -> u16
+    ensures { λ r. ⌜ r ≡ cond (crosses before (counted source amount before .value)) (originate count) count ⌝ }
 {
-    if crosses(before, after) {
+    let after = counted(source, amount, before);
+    if crosses(before, after.value) {
         originate(count)
     } else {
         count
     }
+}
+
+// .. and after all four
+fn originate_crossings(source: u32, amount: u32, monitors: [Monitor; 4], count: u16) -> u16
+    ensures { λ r. ⌜ r ≡ originateCrossings source amount monitors count ⌝ }
+{
+    let after0 = originate_crossing(source, amount, monitors[0], count);
+    let after1 = originate_crossing(source, amount, monitors[1], after0);
+    let after2 = originate_crossing(source, amount, monitors[2], after1);
+    originate_crossing(source, amount, monitors[3], after2)
+}
+
+// The four monitors after a report.
+fn counted_monitors(source: u32, amount: u32, before: [Monitor; 4]) -> [Monitor; 4]
+    ensures { λ r. ⌜ r ≡ map (counted source amount) before ⌝ }
+{
+    [
+        counted(source, amount, before[0]),
+        counted(source, amount, before[1]),
+        counted(source, amount, before[2]),
+        counted(source, amount, before[3]),
+    ]
 }
 
 // "Sources 01h to 04h also add to the four error counts in the order above"
@@ -69,26 +102,15 @@ fn add_error(source: u32, amount: u32, errors: [u32; 4]) -> [u32; 4]
 pub fn event_on(source: u32, amount: u32, before: Phy) -> Phy
     ensures { λ r. ⌜ r ≡ eventOn source amount before ⌝ }
 {
-    let m0 = before.monitors[0];
-    let m1 = before.monitors[1];
-    let m2 = before.monitors[2];
-    let m3 = before.monitors[3];
-    let n0 = counted(source, amount, m0);
-    let n1 = counted(source, amount, m1);
-    let n2 = counted(source, amount, m2);
-    let n3 = counted(source, amount, m3);
-    let c0 = crossing_count(m0, n0.value, before.expander1);
-    let c1 = crossing_count(m1, n1.value, c0);
-    let c2 = crossing_count(m2, n2.value, c1);
-    let c3 = crossing_count(m3, n3.value, c2);
     let errors = before.errors;
+    let monitors = before.monitors;
     Phy {
         group: before.group,
         enabled: before.enabled,
         errors: add_error(source, amount, errors),
-        monitors: [n0, n1, n2, n3],
+        monitors: counted_monitors(source, amount, monitors),
         change0: before.change0,
-        expander1: c3,
+        expander1: originate_crossings(source, amount, monitors, before.expander1),
         expander2: before.expander2,
     }
 }

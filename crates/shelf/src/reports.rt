@@ -3,23 +3,15 @@
 use crate::counts::originate;
 use crate::phy::change_on;
 use crate::phy::event_on;
+use crate::phy::exists;
 use crate::sources::supported;
 use model::House;
 use model::Outcome;
 use model::Shelf;
 use model::Taken;
 ghost use mathlib.Core.Path.{_≡_};
-ghost use Prim.Native.Nat.{min};
-ghost use lib.Dec.{ltb};
 ghost use Rattle.model.specs.Reports.{amountTooLarge, eventTaken, event, linkChange};
 ghost use Rattle.model.specs.Reports.{reducedFunctionality, sesNotice};
-
-// Phy p exists on a shelf of this phy number: "1 to 24 phys, numbered from 0."
-pub fn phy_exists(number: u32, p: u32) -> bool
-    ensures { λ r. ⌜ r ≡ ltb p (min number 24) ⌝ }
-{
-    (p < number) & (p < 24)
-}
 
 // H9: "amount above FFh for 2Bh, or above FFFFh for 2Ch"
 fn amount_too_large(source: u32, amount: u32) -> bool
@@ -47,7 +39,7 @@ pub fn event_taken(there: bool, source: u32, amount: u32) -> Taken
 pub fn event(shelf: Shelf, phy: u32, source: u32, amount: u32) -> Outcome
     ensures { λ r. ⌜ r ≡ event shelf phy source amount ⌝ }
 {
-    let taken = event_taken(phy_exists(shelf.number, phy), source, amount);
+    let taken = event_taken(exists(shelf.number, phy), source, amount);
     let Taken::Done = taken else {
         return Outcome { taken, shelf };
     };
@@ -64,7 +56,7 @@ pub fn event(shelf: Shelf, phy: u32, source: u32, amount: u32) -> Outcome
 pub fn link_change(shelf: Shelf, phy: u32) -> Outcome
     ensures { λ r. ⌜ r ≡ linkChange shelf phy ⌝ }
 {
-    if !phy_exists(shelf.number, phy) {
+    if !exists(shelf.number, phy) {
         return Outcome {
             taken: Taken::NotDone(House::NoSuchPhy),
             shelf,

@@ -1,0 +1,2 @@
+-- Facts that several of the functions' proofs use.
+pub mod Four

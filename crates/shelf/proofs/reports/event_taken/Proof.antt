@@ -1,0 +1,44 @@
+-- `shelf::reports::event_taken` meets its contract: the tests in their order are those of the definition. Assumes nothing.
+use borrow.Author.Needs.{needs}
+use borrow.Author.Tests.{not-true, not-false}
+use Rattle.model.specs.Reports.{eventTaken}
+use Rattle.shelf.proofs.reports.event_taken.Statement.{statement}
+use Rattle.shelf.proofs.reports.event_taken.Tie as tie
+
+returns : tie.Need-returns
+unfolding eventTaken
+returns c = rw (not-true (c .before .args .there) (c .if1 .taken))
+
+supported-requires : tie.Need-supported-requires
+supported-requires c κs = search needs
+
+returns-2 : tie.Need-returns-2
+unfolding eventTaken
+returns-2 c = 
+    rw (not-false (c .before .before .before .args .there) (c .before .before .if1 .left), ← c .before .supported .ensures, c .if2 .taken)
+
+amount-too-large-requires : tie.Need-amount-too-large-requires
+amount-too-large-requires c κs = search needs
+
+returns-3 : tie.Need-returns-3
+unfolding eventTaken
+returns-3 c = 
+    rw (not-false (c .before .before .before .before .before .args .there) (c .before .before .before .before .if1 .left),
+    ← c .before .before .before .supported .ensures,
+    c .before .before .if2 .left,
+    ← c .before .amount-too-large .ensures,
+    c .if3 .taken)
+
+returns-4 : tie.Need-returns-4
+unfolding eventTaken
+returns-4 c = 
+    rw (not-false (c .before .before .before .before .before .args .there) (c .before .before .before .before .if1 .left),
+    ← c .before .before .before .supported .ensures,
+    c .before .before .if2 .left,
+    ← c .before .amount-too-large .ensures,
+    c .if3 .left)
+
+pub event-taken-spec : {M : Type 1} → statement M
+event-taken-spec =
+    tie.close
+    (tie.spec returns supported-requires returns-2 amount-too-large-requires returns-3 returns-4)
