@@ -1,10 +1,10 @@
 // The reports: "An event report names phy, source and a 32-bit amount." "Other reports: a link change
 // on a phy (Change), and two device notices (Expander 3h, SES)."
-use crate::counts::originate;
-use crate::phy::change_on;
-use crate::phy::event_on;
-use crate::phy::exists;
-use crate::sources::supported;
+use crate::phys::exists;
+use counters::counts::originate;
+use counters::phy::change_on;
+use counters::phy::event_on;
+use counters::sources::supported;
 use model::House;
 use model::Outcome;
 use model::Shelf;

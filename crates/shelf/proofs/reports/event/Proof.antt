@@ -31,11 +31,11 @@ taken-is c = rw (← c .before .exists .ensures) (c .event-taken .ensures)
 in-place : (c : tie.After-enum-told) → c .before .before .before .before .args .phy < 24
 in-place c =
     let s = c .before .before .before .before .args in
-    exists-iff (s .t1) (s .phy) .0 (event-done (s .t1) (s .phy) (s .source) (s .amount) .0 (sym (taken-is (c .before .before )) ∙ c .enum-told .given .1) .phy-exists) .1
+    exists-iff (s .t1) (s .phy) .0 (event-done (s .t1) (s .phy) (s .source) (s .amount) .0 (sym (taken-is (c .before .before)) ∙ c .enum-told .given .1) .phy-exists) .1
 
 returns : tie.Need-returns
 unfolding event
-returns c = rw (sym (taken-is (c .before .before )) ∙ c .enum-told2 .given .1, c .enum-told2 .given .1)
+returns c = rw (sym (taken-is (c .before .before)) ∙ c .enum-told2 .given .1, c .enum-told2 .given .1)
 
 mul-before : tie.Need-mul-before
 mul-before c = search needs
@@ -50,11 +50,11 @@ mul-t13 : tie.Need-mul-t13
 mul-t13 c = search needs
 
 element-set-from-after : tie.Need-element-set-from-after
-element-set-from-after c = in-place (c .before .before )
+element-set-from-after c = in-place (c .before .before)
 
 returns-2 : tie.Need-returns-2
 unfolding event
-returns-2 c = rw (sym (taken-is (c .before .before .before .before )) ∙ c .before .before .enum-told .given .1, c .event-on .ensures)
+returns-2 c = rw (sym (taken-is (c .before .before .before .before)) ∙ c .before .before .enum-told .given .1, c .event-on .ensures)
 
 pub event-spec : {M : Type 1} → statement M
 event-spec =

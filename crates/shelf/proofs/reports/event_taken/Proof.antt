@@ -14,7 +14,7 @@ supported-requires c κs = search needs
 
 returns-2 : tie.Need-returns-2
 unfolding eventTaken
-returns-2 c = 
+returns-2 c =
     rw (not-false (c .before .before .before .args .there) (c .before .before .if1 .left), ← c .before .supported .ensures, c .if2 .taken)
 
 amount-too-large-requires : tie.Need-amount-too-large-requires
@@ -22,21 +22,25 @@ amount-too-large-requires c κs = search needs
 
 returns-3 : tie.Need-returns-3
 unfolding eventTaken
-returns-3 c = 
-    rw (not-false (c .before .before .before .before .before .args .there) (c .before .before .before .before .if1 .left),
-    ← c .before .before .before .supported .ensures,
-    c .before .before .if2 .left,
-    ← c .before .amount-too-large .ensures,
-    c .if3 .taken)
+returns-3 c =
+    rw (
+      not-false (c .before .before .before .before .before .args .there) (c .before .before .before .before .if1 .left),
+      ← c .before .before .before .supported .ensures,
+      c .before .before .if2 .left,
+      ← c .before .amount-too-large .ensures,
+      c .if3 .taken,
+    )
 
 returns-4 : tie.Need-returns-4
 unfolding eventTaken
-returns-4 c = 
-    rw (not-false (c .before .before .before .before .before .args .there) (c .before .before .before .before .if1 .left),
-    ← c .before .before .before .supported .ensures,
-    c .before .before .if2 .left,
-    ← c .before .amount-too-large .ensures,
-    c .if3 .left)
+returns-4 c =
+    rw (
+      not-false (c .before .before .before .before .before .args .there) (c .before .before .before .before .if1 .left),
+      ← c .before .before .before .supported .ensures,
+      c .before .before .if2 .left,
+      ← c .before .amount-too-large .ensures,
+      c .if3 .left,
+    )
 
 pub event-taken-spec : {M : Type 1} → statement M
 event-taken-spec =

@@ -38,14 +38,14 @@ mul-t13 : tie.Need-mul-t13
 mul-t13 c = search needs
 
 element-set-from-after : tie.Need-element-set-from-after
-element-set-from-after c = in-place (c .before .before )
+element-set-from-after c = in-place (c .before .before)
 
 originate-requires : tie.Need-originate-requires
 originate-requires c κs = search needs
 
 returns-2 : tie.Need-returns-2
 unfolding linkChange
-returns-2 c = rw (there (c .before .before .before ), c .before .change-on .ensures, c .originate .ensures)
+returns-2 c = rw (there (c .before .before .before), c .before .change-on .ensures, c .originate .ensures)
 
 pub link-change-spec : {M : Type 1} → statement M
 link-change-spec =

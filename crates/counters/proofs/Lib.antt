@@ -1,0 +1,2 @@
+-- A fact that the functions' proofs use.
+pub mod Four

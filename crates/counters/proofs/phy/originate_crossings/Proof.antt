@@ -1,0 +1,60 @@
+-- `counters::phy::originate_crossings` meets its contract: the four monitors that it reads are all there are. Assumes nothing.
+use borrow.Author.Needs.{needs}
+use native.Mathlib.Omega.{arith}
+use mathlib.Core.Path.{_≡_}
+use lib.ListN.{length}
+use Rattle.model.specs.Counting.{originateCrossings}
+use Rattle.model.specs.Shelf.{freshMonitor}
+use Rattle.counters.proofs.Four.{four}
+use Rattle.counters.proofs.phy.originate_crossings.Statement.{statement}
+use Rattle.counters.proofs.phy.originate_crossings.Tie as tie
+
+array-copy-out-originate-crossing : tie.Need-array-copy-out-originate-crossing
+array-copy-out-originate-crossing c = search needs
+
+originate-crossing-requires : tie.Need-originate-crossing-requires
+originate-crossing-requires c κs = search needs
+
+array-copy-out-originate-crossing-2 : tie.Need-array-copy-out-originate-crossing-2
+array-copy-out-originate-crossing-2 c = search needs
+
+originate-crossing-requires-2 : tie.Need-originate-crossing-requires-2
+originate-crossing-requires-2 c κs = search needs
+
+array-copy-out-originate-crossing-3 : tie.Need-array-copy-out-originate-crossing-3
+array-copy-out-originate-crossing-3 c = search needs
+
+originate-crossing-requires-3 : tie.Need-originate-crossing-requires-3
+originate-crossing-requires-3 c κs = search needs
+
+array-copy-out-originate-crossing-4 : tie.Need-array-copy-out-originate-crossing-4
+array-copy-out-originate-crossing-4 c = search needs
+
+originate-crossing-requires-4 : tie.Need-originate-crossing-requires-4
+originate-crossing-requires-4 c κs = search needs
+
+returns : tie.Need-returns
+unfolding originateCrossings
+returns c =
+    let size : length (c .before .before .before .before .before .before .before .before .args .t3) ≡ 4 = omega arith in
+    rw (
+      four freshMonitor (c .before .before .before .before .before .before .before .before .args .t3) size,
+      c .originate-crossing4 .ensures,
+      c .before .before .originate-crossing3 .ensures,
+      c .before .before .before .before .originate-crossing2 .ensures,
+      c .before .before .before .before .before .before .originate-crossing .ensures,
+    )
+
+pub originate-crossings-spec : {M : Type 1} → statement M
+originate-crossings-spec =
+    tie.close
+    (tie.spec
+    array-copy-out-originate-crossing
+    originate-crossing-requires
+    array-copy-out-originate-crossing-2
+    originate-crossing-requires-2
+    array-copy-out-originate-crossing-3
+    originate-crossing-requires-3
+    array-copy-out-originate-crossing-4
+    originate-crossing-requires-4
+    returns)

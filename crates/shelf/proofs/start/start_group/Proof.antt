@@ -1,0 +1,20 @@
+-- `start_group` meets its contract: the branch is the definition's. Assumes nothing.
+use borrow.Author.Needs.{needs}
+use borrow.Author.Tests.{lt-ltb, le-ltb}
+use Rattle.shelf.proofs.start.start_group.Statement.{statement}
+use Rattle.shelf.proofs.start.start_group.Tie as tie
+
+mul-result : tie.Need-mul-result
+mul-result c = search needs
+
+array-read-result : tie.Need-array-read-result
+array-read-result c = search needs
+
+returns : tie.Need-returns
+returns c = simp (lt-ltb _ _ (c .if1 .taken))
+
+returns-2 : tie.Need-returns-2
+returns-2 c = simp (le-ltb _ _ (c .if1 .left))
+
+pub start-group-spec : {M : Type 1} → statement M
+start-group-spec = tie.close (tie.spec mul-result array-read-result returns returns-2)

@@ -1,0 +1,51 @@
+-- `start_taken` meets its contract: the branches are the refusals H1, H2 and H3, in this order. Assumes nothing.
+use borrow.Author.Needs.{needs}
+use borrow.Author.Tests.{not-false}
+use Rattle.model.specs.Shelf.{startTaken}
+use Rattle.model.specs.Tests.{within}
+use Rattle.model.proofs.Laws.Tests.{within-iff}
+use Rattle.shelf.proofs.start.start_taken.Statement.{statement}
+use Rattle.shelf.proofs.start.start_taken.Tie as tie
+
+returns : tie.Need-returns
+unfolding startTaken
+returns c = simp (c .if1 .taken)
+
+groups-fit-requires : tie.Need-groups-fit-requires
+groups-fit-requires c κs =
+    let n = c .before .args .number in
+    within-iff 1 24 n .0 (rw (not-false (within 1 24 n) (c .if1 .left)) tt) .1
+
+returns-2 : tie.Need-returns-2
+unfolding startTaken
+returns-2 c = simp (c .before .before .if1 .left, ← c .before .groups-fit .ensures, c .if2 .taken)
+
+legal-table-requires : tie.Need-legal-table-requires
+legal-table-requires c κs = search needs
+
+returns-3 : tie.Need-returns-3
+unfolding startTaken
+returns-3 c =
+    simp (
+      c .before .before .before .before .if1 .left,
+      ← c .before .before .before .groups-fit .ensures,
+      c .before .before .if2 .left,
+      ← c .before .legal-table .ensures,
+      c .if3 .taken,
+    )
+
+returns-4 : tie.Need-returns-4
+unfolding startTaken
+returns-4 c =
+    simp (
+      c .before .before .before .before .if1 .left,
+      ← c .before .before .before .groups-fit .ensures,
+      c .before .before .if2 .left,
+      ← c .before .legal-table .ensures,
+      c .if3 .left,
+    )
+
+pub start-taken-spec : {M : Type 1} → statement M
+start-taken-spec =
+    tie.close
+    (tie.spec returns groups-fit-requires returns-2 legal-table-requires returns-3 returns-4)
