@@ -1,7 +1,7 @@
 -- A proof that says `unfolding computes` may run every definition of document 01 on numbers: the names are listed here, once.
 use Prim.Native.Nat.{ℕ}
 use Rattle.model.specs.CrossedOut.{aboutPhy, linkResetOrDisable, crossedOut, remains}
-use Rattle.model.specs.Counting.{originate, addWrapping, addSaturating, counted, crosses, originateCrossings}
+use Rattle.model.specs.Counting.{originate, counted, crosses, originateCrossings}
 use Rattle.model.specs.Counting.{addError, eventOn, changeOn}
 use Rattle.model.specs.Reach.{reachSet, reachNumber, reachQuery}
 use Rattle.model.specs.Reply.{reportGeneral, reportManufacturer, reportPhyErrorLog, reportPhyEvent}
@@ -25,7 +25,7 @@ unfolding allBelow sumBelow joinBelow rowReaches symmetric legalTable reachSet r
 zones = 0
 
 unfoldable pub counts : ℕ
-unfolding counting peak supported originate addWrapping addSaturating counted crosses originateCrossings addError eventOn changeOn
+unfolding counting peak supported originate counted crosses originateCrossings addError eventOn changeOn
 counts = 0
 
 unfoldable pub shelves : ℕ

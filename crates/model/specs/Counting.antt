@@ -15,11 +15,11 @@ unfoldable pub originate : ℕ → ℕ
 originate count = cond (eqb count 0xFFFF) 0x0001 (count + 1)
 
 -- "counting values wrap at 32 bits"
-unfoldable pub addWrapping : ℕ → ℕ → ℕ
+abbrev pub addWrapping : ℕ → ℕ → ℕ
 addWrapping value amount = (value + amount) % 2 ^ 32
 
 -- "the four error counts .., which stop at FFFFFFFFh"
-unfoldable pub addSaturating : ℕ → ℕ → ℕ
+abbrev pub addSaturating : ℕ → ℕ → ℕ
 addSaturating count amount = min (count + amount) 0xFFFFFFFF
 
 abbrev pub withValue : Monitor → ℕ → Monitor

@@ -14,7 +14,7 @@ use Rattle.model.specs.declared.Phy.{Phy}
 use Rattle.model.specs.declared.Shelf.{Shelf}
 use Rattle.model.specs.declared.Taken.the-variants.{Done}
 use Rattle.model.specs.Bytes.{byte, dword}
-use Rattle.model.specs.Counting.{addWrapping, addSaturating, counted, crosses, originateCrossings, addError, eventOn}
+use Rattle.model.specs.Counting.{addSaturating, counted, crosses, originateCrossings, addError, eventOn}
 use Rattle.model.specs.Counting.{changeOn}
 use Rattle.model.specs.Reach.{reaches}
 use Rattle.model.specs.Reply.{errorAt, monitorAt}
@@ -122,7 +122,7 @@ no-errors-fit : ErrorsFit (replicate 4 0)
 no-errors-fit = (refl, replicate-each (λ n. n ≤ 0xFFFFFFFF) 0 4 (omega arith))
 
 add-error-fits : (source amount : ℕ) (errors : List ℕ) → ErrorsFit errors → ErrorsFit (addError source amount errors)
-unfolding addError addSaturating
+unfolding addError
 add-error-fits source amount errors f =
     cond-both ErrorsFit (within 0x01 0x04 source) _ _ (
       rw length-set (f .0),
@@ -141,7 +141,7 @@ map-fits h keeps ms f = (rw length-map (f .0), λ i. map-at MonitorFits freshMon
 
 counted-fits : (source amount : ℕ) → amount ≤ 0xFFFFFFFF → (m : Monitor) → MonitorFits m
     → MonitorFits (counted source amount m)
-unfolding counted addWrapping
+unfolding counted
 counted-fits source amount h m f =
     cond-both MonitorFits (eqb (m .source) source) _ _
     (record {

@@ -30,23 +30,19 @@ originate-range count h =
 
 -- "counting values wrap at 32 bits"
 pub wrapping-fits : (value amount : ℕ) → value + amount < 2 ^ 32 → addWrapping value amount ≡ value + amount
-unfolding addWrapping
 wrapping-fits value amount h = mod-eq-of-lt h
 
 pub wrapping-wraps : (value amount : ℕ) → value < 2 ^ 32 → amount < 2 ^ 32 → 2 ^ 32 ≤ value + amount
     → addWrapping value amount ≡ value + amount - 2 ^ 32
-unfolding addWrapping
 wrapping-wraps value amount v a h = omega arith
 
 -- "which stop at FFFFFFFFh"
 pub saturating-fits : (count amount : ℕ) → count + amount ≤ 0xFFFFFFFF
     → addSaturating count amount ≡ count + amount
-unfolding addSaturating
 saturating-fits count amount h = omega arith
 
 pub saturating-stops : (count amount : ℕ) → 0xFFFFFFFF ≤ count + amount
     → addSaturating count amount ≡ 0xFFFFFFFF
-unfolding addSaturating
 saturating-stops count amount h = omega arith
 
 -- "A peak that a report takes from below its threshold to it or above"
