@@ -1,4 +1,5 @@
--- `counters::phy::change_on` meets its contract: the record is that of the definition, with the count that `originate` gives. Assumes nothing.
+-- `counters::phy::change_on` meets its contract: the record is the definition's, with the count that `originate` gives.
+-- Assumes nothing.
 use borrow.Author.Needs.{needs}
 use Rattle.model.specs.Counting.{changeOn}
 use Rattle.counters.proofs.phy.change_on.Statement.{statement}

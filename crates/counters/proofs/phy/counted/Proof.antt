@@ -1,4 +1,5 @@
--- `counters::phy::counted` meets its contract: another source leaves the monitor, the same one gives it its new value. Assumes nothing.
+-- `counters::phy::counted` meets its contract: another source leaves the monitor, the same one gives it its new value.
+-- Assumes nothing.
 use borrow.Author.Needs.{needs}
 use borrow.Author.Tests.{eq-eqb, ne-eqb}
 use Rattle.model.specs.Counting.{counted}

@@ -14,7 +14,12 @@ originate-requires : tie.Need-originate-requires
 originate-requires c κs = search needs
 
 returns : tie.Need-returns
-returns c = rw (← c .before .before .before .counted .ensures, sym (c .before .before .crosses .ensures) ∙ c .before .if1 .taken, c .originate .ensures)
+returns c =
+    rw (
+      ← c .before .before .before .counted .ensures,
+      sym (c .before .before .crosses .ensures) ∙ c .before .if1 .taken,
+      c .originate .ensures,
+    )
 
 returns-2 : tie.Need-returns-2
 returns-2 c = rw (← c .before .before .counted .ensures, sym (c .before .crosses .ensures) ∙ c .if1 .left)

@@ -1,9 +1,12 @@
--- `gate::frame::asked` meets its contract: at each function the definition is left with that function's own request. Assumes nothing.
+-- `gate::frame::asked` meets its contract: at each function the definition is left with that function's own request.
+-- Assumes nothing.
 use borrow.Author.Needs.{needs}
 use borrow.Author.Tests.{ne-eqb}
 use native.Mathlib.Nat.{div-one}
-use mathlib.Core.Path.{sym, _∙_}
-use Rattle.model.specs.Request.{asked}
+use Prim.Native.Nat.{ℕ}
+use mathlib.Core.Path.{_≡_, sym, _∙_}
+use denote.Ref.{now}
+use Rattle.model.specs.Request.{functionOf, asked}
 use Rattle.gate.proofs.frame.asked.Statement.{statement}
 use Rattle.gate.proofs.frame.asked.Tie as tie
 
@@ -52,36 +55,41 @@ byte-at-requires-12 c κs = search needs
 byte-at-requires-13 : tie.Need-byte-at-requires-13
 byte-at-requires-13 c κs = search needs
 
+-- the function of the frame, in the arm of a key
+function-is : (c : tie.After-byte-at) {key : ℕ} → c .byte-at .result ≡ key
+    → functionOf (now (c .before .before .args .frame)) ≡ key
+function-is c is-key = sym (c .byte-at .ensures) ∙ is-key
+
 returns : tie.Need-returns
 unfolding asked
 returns c =
-    rw (sym (c .before .byte-at .ensures) ∙ c .match .keys1)
+    rw (function-is (c .before) (c .match .keys1))
 
 returns-2 : tie.Need-returns-2
 unfolding asked
 returns-2 c =
-    rw (sym (c .before .byte-at .ensures) ∙ c .match .keys2)
+    rw (function-is (c .before) (c .match .keys2))
 
 returns-3 : tie.Need-returns-3
 unfolding asked
 returns-3 c =
-    rw (sym (c .before .before .byte-at .ensures) ∙ c .before .match .keys3, c .byte-at2 .ensures)
+    rw (function-is (c .before .before) (c .before .match .keys3), c .byte-at2 .ensures)
 
 returns-4 : tie.Need-returns-4
 unfolding asked
 returns-4 c =
-    rw (sym (c .before .before .byte-at .ensures) ∙ c .before .match .keys4, c .byte-at3 .ensures)
+    rw (function-is (c .before .before) (c .before .match .keys4), c .byte-at3 .ensures)
 
 returns-5 : tie.Need-returns-5
 unfolding asked
 returns-5 c =
-    rw (sym (c .before .before .byte-at .ensures) ∙ c .before .match .keys5, c .byte-at4 .ensures)
+    rw (function-is (c .before .before) (c .before .match .keys5), c .byte-at4 .ensures)
 
 returns-6 : tie.Need-returns-6
 unfolding asked
 returns-6 c =
     rw (
-      sym (c .before .before .before .before .before .before .byte-at .ensures) ∙ c .before .before .before .before .before .match .keys6,
+      function-is (c .before .before .before .before .before .before) (c .before .before .before .before .before .match .keys6),
       c .before .before .word-of .ensures,
       c .before .before .before .before .byte-at5 .ensures,
       c .before .before .before .byte-at6 .ensures,

@@ -26,7 +26,9 @@ known-requires c κs = search needs
 good : (c : tie.Else1) → badFrame (now (c .before .before .before .args .frame)) ≡ false
 good c = sym (c .before .bad-frame .ensures) ∙ c .if1 .left
 
-known-is : (c : tie.After-known) → c .known .result ≡ known (functionOf (now (c .before .before .before .before .before .args .frame)))
+known-is : (c : tie.After-known)
+    → c .known .result
+    ≡ known (functionOf (now (c .before .before .before .before .before .args .frame)))
 known-is c = c .known .ensures ∙ ap known (c .before .byte-at .ensures)
 
 returns-2 : tie.Need-returns-2

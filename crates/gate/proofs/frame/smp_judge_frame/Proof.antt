@@ -2,8 +2,7 @@
 use borrow.Author.Needs.{needs}
 use borrow.Author.Tests.{le-leb, lt-leb}
 use native.Mathlib.Omega.{arith}
-use mathlib.Core.Path.{ap, _∙_}
-use Rattle.gate.specs.FrameNumber.{housePart, resultPart, frameNumber}
+use Rattle.gate.specs.FrameNumber.{frameNumber}
 use Rattle.gate.proofs.frame.smp_judge_frame.Statement.{statement}
 use Rattle.gate.proofs.frame.smp_judge_frame.Tie as tie
 

@@ -3,7 +3,6 @@
 use borrow.Author.Needs.{needs}
 use Prim.Native.Nat.{_<_}
 use mathlib.Core.Path.{_≡_, sym, _∙_}
-use Rattle.model.specs.declared.Taken.the-variants.{Done}
 use Rattle.model.specs.Reports.{eventTaken, event}
 use Rattle.model.specs.Shelf.{exists}
 use Rattle.model.proofs.Plain.Reach.{exists-iff}
@@ -23,15 +22,18 @@ enum-told c = search needs
 enum-told-2 : tie.Need-enum-told-2
 enum-told-2 c = search needs
 
+-- what is told is the definition's, of this shelf and report
 taken-is : (c : tie.After-event-taken)
-    → c .event-taken .result
-    ≡ eventTaken (exists (c .before .before .args .t1) (c .before .before .args .phy)) (c .before .before .args .source) (c .before .before .args .amount)
+    → let a = c .before .before .args in
+    c .event-taken .result ≡ eventTaken (exists (a .t1) (a .phy)) (a .source) (a .amount)
 taken-is c = rw (← c .before .exists .ensures) (c .event-taken .ensures)
 
+-- where it is done the phy exists, and so has a place
 in-place : (c : tie.After-enum-told) → c .before .before .before .before .args .phy < 24
 in-place c =
-    let s = c .before .before .before .before .args in
-    exists-iff (s .t1) (s .phy) .0 (event-done (s .t1) (s .phy) (s .source) (s .amount) .0 (sym (taken-is (c .before .before)) ∙ c .enum-told .given .1) .phy-exists) .1
+    let a = c .before .before .before .before .args in
+    let done = event-done (a .t1) (a .phy) (a .source) (a .amount) .0 (sym (taken-is (c .before .before)) ∙ c .enum-told .given .1) in
+    exists-iff (a .t1) (a .phy) .0 (done .phy-exists) .1
 
 returns : tie.Need-returns
 unfolding event
@@ -54,7 +56,11 @@ element-set-from-after c = in-place (c .before .before)
 
 returns-2 : tie.Need-returns-2
 unfolding event
-returns-2 c = rw (sym (taken-is (c .before .before .before .before)) ∙ c .before .before .enum-told .given .1, c .event-on .ensures)
+returns-2 c =
+    rw (
+      sym (taken-is (c .before .before .before .before)) ∙ c .before .before .enum-told .given .1,
+      c .event-on .ensures,
+    )
 
 pub event-spec : {M : Type 1} → statement M
 event-spec =

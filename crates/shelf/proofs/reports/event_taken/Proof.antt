@@ -1,6 +1,8 @@
 -- `shelf::reports::event_taken` meets its contract: the tests in their order are those of the definition. Assumes nothing.
 use borrow.Author.Needs.{needs}
 use borrow.Author.Tests.{not-true, not-false}
+use mathlib.Core.Path.{_≡_}
+use mathlib.Core.Bool.{true}
 use Rattle.model.specs.Reports.{eventTaken}
 use Rattle.shelf.proofs.reports.event_taken.Statement.{statement}
 use Rattle.shelf.proofs.reports.event_taken.Tie as tie
@@ -9,13 +11,16 @@ returns : tie.Need-returns
 unfolding eventTaken
 returns c = rw (not-true (c .before .args .there) (c .if1 .taken))
 
+there : (c : tie.Else1) → c .before .args .there ≡ true
+there c = not-false (c .before .args .there) (c .if1 .left)
+
 supported-requires : tie.Need-supported-requires
 supported-requires c κs = search needs
 
 returns-2 : tie.Need-returns-2
 unfolding eventTaken
 returns-2 c =
-    rw (not-false (c .before .before .before .args .there) (c .before .before .if1 .left), ← c .before .supported .ensures, c .if2 .taken)
+    rw (there (c .before .before), ← c .before .supported .ensures, c .if2 .taken)
 
 amount-too-large-requires : tie.Need-amount-too-large-requires
 amount-too-large-requires c κs = search needs
@@ -24,7 +29,7 @@ returns-3 : tie.Need-returns-3
 unfolding eventTaken
 returns-3 c =
     rw (
-      not-false (c .before .before .before .before .before .args .there) (c .before .before .before .before .if1 .left),
+      there (c .before .before .before .before),
       ← c .before .before .before .supported .ensures,
       c .before .before .if2 .left,
       ← c .before .amount-too-large .ensures,
@@ -35,7 +40,7 @@ returns-4 : tie.Need-returns-4
 unfolding eventTaken
 returns-4 c =
     rw (
-      not-false (c .before .before .before .before .before .args .there) (c .before .before .before .before .if1 .left),
+      there (c .before .before .before .before),
       ← c .before .before .before .supported .ensures,
       c .before .before .if2 .left,
       ← c .before .amount-too-large .ensures,
