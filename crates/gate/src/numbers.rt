@@ -5,6 +5,7 @@ ghost use mathlib.Core.Path.{_≡_};
 ghost use Rattle.model.specs.House.{houseNumber};
 ghost use Rattle.model.specs.Results.{resultCode};
 
+// "House refusals", by number
 pub fn house_number(house: House) -> u8
     ensures { λ r. ⌜ r ≡ houseNumber house ⌝ }
 {
@@ -21,6 +22,7 @@ pub fn house_number(house: House) -> u8
     }
 }
 
+// "Function results", by code
 pub fn result_code(result: FunctionResult) -> u8
     ensures { λ r. ⌜ r ≡ resultCode result ⌝ }
 {

@@ -37,7 +37,7 @@ fn reach_set(shelf: Shelf, source: u32) -> u32
     set
 }
 
-// The number of phys is the count of ones of the set.
+// The reach query. The number of phys is the count of ones of the set.
 pub fn reach_query(shelf: Shelf, source: u32) -> Reach
     ensures { λ r. ⌜ r ≡ reachQuery shelf source ⌝ }
 {

@@ -36,6 +36,7 @@ pub fn event_taken(there: bool, source: u32, amount: u32) -> Taken
     Taken::Done
 }
 
+// An event report: the phy that it names counts it, or, where it is refused, the shelf is as it was.
 pub fn event(shelf: Shelf, phy: u32, source: u32, amount: u32) -> Outcome
     ensures { λ r. ⌜ r ≡ event shelf phy source amount ⌝ }
 {
@@ -53,6 +54,8 @@ pub fn event(shelf: Shelf, phy: u32, source: u32, amount: u32) -> Outcome
     }
 }
 
+// A link change: the phy originates Change, enabled or not, and the change count moves; or H7, and the
+// shelf is as it was.
 pub fn link_change(shelf: Shelf, phy: u32) -> Outcome
     ensures { λ r. ⌜ r ≡ linkChange shelf phy ⌝ }
 {
@@ -73,6 +76,7 @@ pub fn link_change(shelf: Shelf, phy: u32) -> Outcome
     }
 }
 
+// The notice of reduced functionality originates Expander 3h, and has no refusal.
 pub fn reduced_functionality(shelf: Shelf) -> Shelf
     ensures { λ r. ⌜ r ≡ reducedFunctionality shelf ⌝ }
 {
@@ -81,6 +85,7 @@ pub fn reduced_functionality(shelf: Shelf) -> Shelf
     after
 }
 
+// The SES notice originates SES 0h, and has no refusal.
 pub fn ses_notice(shelf: Shelf) -> Shelf
     ensures { λ r. ⌜ r ≡ sesNotice shelf ⌝ }
 {

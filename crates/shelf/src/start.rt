@@ -106,6 +106,7 @@ pub fn start_taken(number: u32, groups: [u32; 24], table: [u32; 32]) -> Taken
     Taken::Done
 }
 
+// The fresh shelf, or the refusal and no device.
 pub fn start(number: u32, groups: [u32; 24], table: [u32; 32], identifier: [u8; 8]) -> Outcome
     ensures { λ r. ⌜ r ≡ start number groups table identifier ⌝ }
 {

@@ -28,6 +28,7 @@ fn row_symmetric(table: [u32; 32], g: u32) -> bool
     ok
 }
 
+// .. and for every row g
 fn symmetric(table: [u32; 32]) -> bool
     ensures { λ r. ⌜ r ≡ symmetric table ⌝ }
 {
