@@ -3,7 +3,10 @@ use borrow.Author.Needs.{needs}
 use borrow.Author.Tests.{not-true, not-false}
 use mathlib.Core.Path.{_≡_}
 use mathlib.Core.Bool.{true}
+use Rattle.model.specs.declared.House.the-variants.{Amount}
+use Rattle.model.specs.declared.Taken.the-variants.{Done, NotDone}
 use Rattle.model.specs.Reports.{eventTaken}
+use Rattle.model.specs.Tests.{given}
 use Rattle.shelf.proofs.reports.event_taken.Statement.{statement}
 use Rattle.shelf.proofs.reports.event_taken.Tie as tie
 
@@ -25,27 +28,24 @@ returns-2 c =
 amount-too-large-requires : tie.Need-amount-too-large-requires
 amount-too-large-requires c κs = search needs
 
-returns-3 : tie.Need-returns-3
+-- past the first two tests the third is left
+passed : (c : tie.After-amount-too-large)
+    → let a = c .before .before .before .before .args in
+    eventTaken (a .there) (a .source) (a .amount) ≡ given (c .amount-too-large .result) (NotDone Amount) Done
 unfolding eventTaken
-returns-3 c =
+passed c =
     rw (
-      there (c .before .before .before .before),
-      ← c .before .before .before .supported .ensures,
-      c .before .before .if2 .left,
-      ← c .before .amount-too-large .ensures,
-      c .if3 .taken,
+      there (c .before .before .before),
+      ← c .before .before .supported .ensures,
+      c .before .if2 .left,
+      c .amount-too-large .ensures,
     )
 
+returns-3 : tie.Need-returns-3
+returns-3 c = rw (passed (c .before), c .if3 .taken)
+
 returns-4 : tie.Need-returns-4
-unfolding eventTaken
-returns-4 c =
-    rw (
-      there (c .before .before .before .before),
-      ← c .before .before .before .supported .ensures,
-      c .before .before .if2 .left,
-      ← c .before .amount-too-large .ensures,
-      c .if3 .left,
-    )
+returns-4 c = rw (passed (c .before), c .if3 .left)
 
 pub event-taken-spec : {M : Type 1} → statement M
 event-taken-spec =
