@@ -36,7 +36,7 @@ passed c =
     simp (
       c .before .before .before .if1 .left,
       ← c .before .before .groups-fit .ensures,
-      c .before .if2 .left,
+      not-false (c .before .before .groups-fit .result) (c .before .if2 .left),
       c .legal-table .ensures,
       Bool·not-not,
     )
