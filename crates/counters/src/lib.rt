@@ -1,8 +1,8 @@
 // The counters of one phy: which event sources there are, how a count moves, and what a report does to
 // the phy's numbers.
 //
-// Each function is proved equal to a definition of the model (crates/model/specs), under the
-// definition's own name where there is one, and none of the public ones asks anything of its caller.
+// Each public function is proved equal to a definition of the model (crates/model/specs), and bears
+// its name. None asks anything of its caller.
 pub mod counts;
 pub mod phy;
 pub mod sources;

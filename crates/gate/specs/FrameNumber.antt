@@ -11,7 +11,7 @@ use Rattle.model.specs.House.{houseNumber}
 use Rattle.model.specs.Request.{functionOf, judge}
 use Rattle.model.specs.Results.{resultCode}
 
--- "Of a frame under four bytes there is no function to tell; from four bytes on it is byte 1, also beside H6."
+-- Of a frame under four bytes there is no function to tell; from four bytes on it is byte 1, also beside H6.
 abbrev pub hasFunction : List ℕ → Bool
 hasFunction frame = leb 4 (length frame)
 

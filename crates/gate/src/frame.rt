@@ -18,7 +18,7 @@ fn bad_frame(frame: &[u8]) -> bool
     (frame.len() < 4) | (byte_at(frame, 0) != 0x40)
 }
 
-// Not 01h: "not 00h, 01h, 06h, 11h, 14h, 91h or 93h"
+// Not 01h, which is for a function that is "not 00h, 01h, 06h, 11h, 14h, 91h or 93h"
 fn known(function: u8) -> bool
     ensures { λ r. ⌜ r ≡ known function ⌝ }
 {

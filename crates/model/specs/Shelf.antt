@@ -99,12 +99,15 @@ freshPhy g =
 abbrev pub startGroup : ℕ → List ℕ → ℕ → ℕ
 startGroup n groups p = cond (ltb p n) (getD groups p 0) 0
 
+abbrev pub freshPhys : ℕ → List ℕ → List Phy
+freshPhys n groups = joinBelow 24 (λ p. freshPhy (startGroup n groups p) ∷ [])
+
 -- "the change count is 0001h, every other number is 0"
 unfoldable pub freshShelf : ℕ → List ℕ → List ℕ → List ℕ → Shelf
 freshShelf n groups table identifier =
     record {
       number = n;
-      phys = joinBelow 24 (λ p. freshPhy (startGroup n groups p) ∷ []);
+      phys = freshPhys n groups;
       table = table;
       identifier = identifier;
       changes = 0x0001;
@@ -121,11 +124,15 @@ abbrev pub outcome : Taken → Shelf → Shelf → Outcome
 outcome Done old new = record { taken = Done; shelf = new }
 outcome (NotDone house) old new = record { taken = NotDone house; shelf = old }
 
+-- the groups of the n phys are zone groups
+abbrev pub groupsFit : ℕ → List ℕ → Bool
+groupsFit n groups = allBelow n (λ p. zoneGroup (getD groups p 0))
+
 -- H1 "phy number not 1 to 24", H2 "a phy's group is above 31", H3 "table not legal"
 unfoldable pub startTaken : ℕ → List ℕ → List ℕ → Taken
 startTaken n groups table =
     given (not (within 1 24 n)) (NotDone PhyNumber)
-    (given (not (allBelow n (λ p. zoneGroup (getD groups p 0)))) (NotDone PhyGroup)
+    (given (not (groupsFit n groups)) (NotDone PhyGroup)
     (given (not (legalTable table)) (NotDone IllegalTable)
     Done))
 

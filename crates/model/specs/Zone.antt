@@ -22,9 +22,12 @@ row table g = getD table g 0
 unfoldable pub rowReaches : ℕ → ℕ → Bool
 rowReaches r h = zoneGroup h && bit r h
 
--- bit h of row g is bit g of row h
+-- bit h of row g is bit g of row h: for one g and every h, and for every g
+abbrev pub rowSymmetric : List ℕ → ℕ → Bool
+rowSymmetric table g = allBelow 32 (λ h. Bool·beq (bit (row table g) h) (bit (row table h) g))
+
 unfoldable pub symmetric : List ℕ → Bool
-symmetric table = allBelow 32 (λ g. allBelow 32 (λ h. Bool·beq (bit (row table g) h) (bit (row table h) g)))
+symmetric table = allBelow 32 (λ g. rowSymmetric table g)
 
 -- "A legal table is symmetric; row 1 is all ones; row 0 has bit 1 alone."
 unfoldable pub legalTable : List ℕ → Bool

@@ -1,5 +1,3 @@
--- Facts that the functions' proofs use: of a loop that asks whether all pass, of one that fills an array, and of a set as a
--- number.
+-- Facts that the functions' proofs use: of a loop that asks whether all pass, and of one that fills an array.
 pub mod All
 pub mod Filled
-pub mod Sets

@@ -8,11 +8,8 @@ use model::Shelf;
 use model::Taken;
 ghost use mathlib.Core.Path.{_≡_};
 ghost use Prim.Native.Nat.{_≤_, _<_};
-ghost use mathlib.Core.List.{[], _∷_};
-ghost use lib.ListN.{getD};
-ghost use Rattle.model.specs.Shelf.{freshPhy, startGroup, freshShelf, noShelf, startTaken, start};
-ghost use Rattle.model.specs.Tests.{allBelow, joinBelow};
-ghost use Rattle.model.specs.Zone.{zoneGroup};
+ghost use Rattle.model.specs.Shelf.{freshPhy, startGroup, freshPhys, freshShelf, noShelf};
+ghost use Rattle.model.specs.Shelf.{groupsFit, startTaken, start};
 
 // "All phys are enabled, .. every other number is 0, and every monitor's source is 00h."
 fn fresh_phy(group: u32) -> Phy
@@ -47,7 +44,7 @@ fn start_group(number: u32, groups: [u32; 24], p: u32) -> u32
 
 // Places past the phy number hold a fresh phy of group 0.
 fn fresh_phys(number: u32, groups: [u32; 24]) -> [Phy; 24]
-    ensures { λ r. ⌜ r ≡ joinBelow 24 (λ p. freshPhy (startGroup number groups p) ∷ []) ⌝ }
+    ensures { λ r. ⌜ r ≡ freshPhys number groups ⌝ }
 {
     let mut phys = [fresh_phy(0); 24];
     for p in 0..24u32 {
@@ -81,7 +78,7 @@ fn no_shelf() -> Shelf
 // Not H2: the group of each phy is a zone group.
 fn groups_fit(number: u32, groups: [u32; 24]) -> bool
     requires { ⌜ number ≤ 24 ⌝ }
-    ensures { λ r. ⌜ r ≡ allBelow number (λ p. zoneGroup (getD groups p 0)) ⌝ }
+    ensures { λ r. ⌜ r ≡ groupsFit number groups ⌝ }
 {
     let mut fit = true;
     for p in 0..number {

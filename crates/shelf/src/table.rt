@@ -2,9 +2,7 @@
 use gate::zone::smp_row_reaches;
 ghost use mathlib.Core.Path.{_≡_};
 ghost use Prim.Native.Nat.{_<_};
-ghost use mathlib.Core.Bool.{Bool·beq};
-ghost use Rattle.model.specs.Tests.{allBelow};
-ghost use Rattle.model.specs.Zone.{bit, row, symmetric, legalTable};
+ghost use Rattle.model.specs.Zone.{row, rowSymmetric, symmetric, legalTable};
 
 // Row g of the table; past the last there is none, and so no bit.
 pub fn row(table: [u32; 32], g: u32) -> u32
@@ -19,7 +17,7 @@ pub fn row(table: [u32; 32], g: u32) -> u32
 // bit h of row g is bit g of row h, for one row g and every h
 fn row_symmetric(table: [u32; 32], g: u32) -> bool
     requires { ⌜ g < 32 ⌝ }
-    ensures { λ r. ⌜ r ≡ allBelow 32 (λ h. Bool·beq (bit (row table g) h) (bit (row table h) g)) ⌝ }
+    ensures { λ r. ⌜ r ≡ rowSymmetric table g ⌝ }
 {
     let mut ok = true;
     for h in 0..32u32 {

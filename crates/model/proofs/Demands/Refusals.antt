@@ -17,9 +17,9 @@ use Rattle.model.specs.Reach.{reachQuery}
 use Rattle.model.specs.Reports.{amountTooLarge, eventTaken, event, linkChange}
 use Rattle.model.specs.Request.{badFrame}
 use Rattle.model.specs.Server.{Handled, answer, lent, served, lentAfter}
-use Rattle.model.specs.Shelf.{exists, noShelf, startTaken, start}
+use Rattle.model.specs.Shelf.{exists, noShelf, groupsFit, startTaken, start}
 use Rattle.model.specs.Sources.{supported}
-use Rattle.model.specs.Tests.{given, within, allBelow}
+use Rattle.model.specs.Tests.{given, within}
 use Rattle.model.specs.Zone.{zoneGroup, legalTable}
 use Rattle.model.proofs.Laws.Checks.{outcome-taken, outcome-stays}
 use Rattle.model.proofs.Laws.Handled.{concluded, handled, concluded-all, handled-all}
@@ -73,13 +73,13 @@ start-gives n groups table identifier =
     rw outcome-taken
     (simp (check-map takenNumber)
     (row-gives
-    (not (within 1 24 n) ∷ not (allBelow n (λ p. zoneGroup (getD groups p 0))) ∷ not (legalTable table) ∷ [])
+    (not (within 1 24 n) ∷ not (groupsFit n groups) ∷ not (legalTable table) ∷ [])
     (startRefusals n groups table)
     1
     (omega arith)
     (denied-iff (within 1 24 n) (within-iff 1 24 n), (groups-iff, (denied-iff (legalTable table) (legal-table table), tt)))))
   where
-    groups-iff : T (not (allBelow n (λ p. zoneGroup (getD groups p 0))))
+    groups-iff : T (not (groupsFit n groups))
         ↔ ((p : ℕ) × (p < n) × (31 < getD groups p 0))
     groups-iff =
         Iff·trans (some-below-iff n (λ p. zoneGroup (getD groups p 0))) (

@@ -37,6 +37,10 @@ powers-lt (suc n) test = grow (test n) (powers-lt n test)
     grow true h = rw pow-suc (omega arith)
     grow false h = rw pow-suc (omega arith)
 
+-- .. and so below any larger power
+pub powers-fit : (k n : ℕ) (test : ℕ → Bool) → n ≤ k → powers n test < 2 ^ k
+powers-fit k n test h = lt-of-lt-of-le (powers-lt n test) (pow-mono {j = k} h)
+
 -- ---- how many
 
 pub ones-powers : (n : ℕ) (test : ℕ → Bool) → ones (powers n test) ≡ tally n test

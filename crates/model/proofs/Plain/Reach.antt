@@ -1,6 +1,6 @@
 -- Which phys exist and which a source reaches, and what a reach query's two numbers are, in plain logic. Assumes nothing.
 use Prim.Native.Nat.{ℕ, _/_, _%_, _^_, _≤_, _<_}
-use native.Mathlib.Nat.{lt-of-lt-of-le, zero-div}
+use native.Mathlib.Nat.{zero-div}
 use native.Mathlib.Omega.{arith}
 use mathlib.Core.Path.{_≡_, sym}
 use mathlib.Core.Logic.{_↔_, Iff·trans}
@@ -9,14 +9,13 @@ use borrow.Author.Tests.{lt-ltb, le-ltb}
 use lib.Count.{ones}
 use lib.Dec.{T}
 use lib.ListN.{length, List·getD-eq-default}
-use lib.Pow.{pow-mono}
 use Rattle.model.specs.declared.House.the-variants.{SourceGroup}
 use Rattle.model.specs.declared.Reach.the-variants.{Reaches, NoReach}
 use Rattle.model.specs.declared.Shelf.{Shelf}
 use Rattle.model.specs.Reach.{reaches, reachSet, reachNumber, reachQuery}
 use Rattle.model.specs.Shelf.{phyNumber, exists, phyAt}
 use Rattle.model.specs.Zone.{bit, row}
-use Rattle.model.proofs.Laws.Bits.{powers-lt, ones-powers, bit-powers-iff}
+use Rattle.model.proofs.Laws.Bits.{powers-fit, ones-powers, bit-powers-iff}
 use Rattle.model.proofs.Laws.Picked.{picked, picked-iff, picked-rising, picked-length}
 use Rattle.model.proofs.Laws.Rising.{Rising}
 use Rattle.model.proofs.Laws.Tests.{ltb-iff}
@@ -47,7 +46,7 @@ reach-set s g p = bit-powers-iff (phyNumber s) (reaches s g) p
 
 pub reach-set-fits : (s : Shelf) (g : ℕ) → reachSet s g < 2 ^ 24
 unfolding reachSet
-reach-set-fits s g = lt-of-lt-of-le (powers-lt (phyNumber s) (reaches s g)) (pow-mono {j = 24} (omega arith))
+reach-set-fits s g = powers-fit 24 (phyNumber s) (reaches s g) (omega arith)
 
 -- the phys that a source reaches, written out: these and no others, rising
 abbrev pub reachedPhys : Shelf → ℕ → List ℕ

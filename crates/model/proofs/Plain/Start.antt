@@ -9,8 +9,8 @@ use lib.Dec.{T}
 use lib.ListN.{getD}
 use Rattle.model.specs.declared.Taken.the-variants.{Done}
 use Rattle.model.specs.House.{takenNumber}
-use Rattle.model.specs.Shelf.{phyAt, noPhy, freshPhy, startGroup, freshShelf, startTaken}
-use Rattle.model.specs.Tests.{within, allBelow}
+use Rattle.model.specs.Shelf.{phyAt, noPhy, freshPhy, startGroup, freshShelf, groupsFit, startTaken}
+use Rattle.model.specs.Tests.{within}
 use Rattle.model.specs.Zone.{zoneGroup, legalTable}
 use Rattle.model.proofs.Laws.Checks.{unless-iff, done-iff}
 use Rattle.model.proofs.Laws.Join.{join-at}
@@ -25,7 +25,7 @@ pub record Startable (n : ℕ) (groups table : List ℕ) : Type 0 where
   pub legal : LegalTable table
 
 groups-iff : (n : ℕ) (groups : List ℕ)
-    → T (allBelow n (λ p. zoneGroup (getD groups p 0)))
+    → T (groupsFit n groups)
     ↔ ((p : ℕ) → p < n → getD groups p 0 ≤ 31)
 groups-iff n groups =
     Iff·trans (allBelow-iff n (λ p. zoneGroup (getD groups p 0)))
@@ -35,13 +35,13 @@ pub start-done : (n : ℕ) (groups table : List ℕ) → (startTaken n groups ta
 unfolding startTaken
 start-done n groups table =
     let number = unless-iff (within 1 24 n) (within-iff 1 24 n) in
-    let fit = unless-iff (allBelow n (λ p. zoneGroup (getD groups p 0))) (groups-iff n groups) in
+    let fit = unless-iff (groupsFit n groups) (groups-iff n groups) in
     let legal = unless-iff (legalTable table) (legal-table table) in
     Iff·trans (done-iff (startTaken n groups table))
     (simp (check-map takenNumber)
     (Iff·trans
     (none-given
-    (not (within 1 24 n) ∷ not (allBelow n (λ p. zoneGroup (getD groups p 0))) ∷ not (legalTable table) ∷ [])
+    (not (within 1 24 n) ∷ not (groupsFit n groups) ∷ not (legalTable table) ∷ [])
     1
     (omega arith)) (
       λ h. record { number = number .0 (h .0); groups-fit = fit .0 (h .1 .0); legal = legal .0 (h .1 .1 .0) },

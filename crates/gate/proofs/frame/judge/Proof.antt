@@ -1,8 +1,7 @@
 -- `gate::frame::judge` meets its contract: the tests in their order are those of the definition. Assumes nothing.
 use borrow.Author.Needs.{needs}
 use borrow.Author.Tests.{not-true, not-false}
-use mathlib.Core.Path.{sym, ap, _∙_}
-use mathlib.Core.Path.{_≡_}
+use mathlib.Core.Path.{_≡_, sym, ap, _∙_}
 use mathlib.Core.Bool.{false}
 use denote.Ref.{now}
 use Rattle.model.specs.Request.{badFrame, functionOf, known, judge}

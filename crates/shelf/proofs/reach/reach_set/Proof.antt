@@ -1,16 +1,21 @@
 -- `shelf::reach::reach_set` meets its contract. The loop's invariant: the set has the bits of the phys passed that the
 -- source reaches. The measure is how many of the 24 places are left. Assumes nothing.
-use Prim.Native.Nat.{ℕ, _+_, _-_, _≤_}
+use Prim.Native.Nat.{ℕ, _+_, _-_, _^_, _≤_}
+use native.Mathlib.Numerals.{add-one}
 use native.Mathlib.Omega.{arith}
 use mathlib.Core.Path.{_≡_}
-use mathlib.Core.Bool.{Bool}
+use mathlib.Core.Bool.{Bool, cond}
 use borrow.Author.Needs.{needs}
 use Rattle.model.specs.Reach.{reaches, reachSet}
 use Rattle.model.specs.Tests.{sumBelow}
-use Rattle.model.proofs.Laws.Bits.{powers}
-use Rattle.shelf.proofs.Sets.{powers-more, powers-fit}
+use Rattle.model.proofs.Laws.Bits.{powers, powers-fit}
 use Rattle.shelf.proofs.reach.reach_set.Statement.{statement}
 use Rattle.shelf.proofs.reach.reach_set.Tie as tie
+
+-- a set as a number: the next bit is added
+powers-more : (n : ℕ) (test : ℕ → Bool) → powers (n + 1) test ≡ powers n test + cond (test n) (2 ^ n) 0
+unfolding sumBelow
+powers-more n test = rw add-one
 
 abbrev Inv-loop : tie.InvT-loop
 Inv-loop source shelf row number set₀ p₀ set p = (p ≤ number) × (set ≡ powers p (reaches shelf source))
@@ -53,7 +58,7 @@ added : (c : tie.After-phy-bit Inv-loop μ-loop)
 added c = cc (powers-more (c .before .before .before .loop .p) (reached c))
 
 add-set : tie.Need-add-set Inv-loop μ-loop
-add-set c = rw (added c) (record { fits = powers-fit _ (reached c) (omega arith) })
+add-set c = rw (added c) (record { fits = powers-fit 32 _ (reached c) (omega arith) })
 
 add-p : tie.Need-add-p Inv-loop μ-loop
 add-p c = search needs

@@ -32,7 +32,8 @@ taken-is c = rw (← c .before .exists .ensures) (c .event-taken .ensures)
 in-place : (c : tie.After-enum-told) → c .before .before .before .before .args .phy < 24
 in-place c =
     let a = c .before .before .before .before .args in
-    let done = event-done (a .t1) (a .phy) (a .source) (a .amount) .0 (sym (taken-is (c .before .before)) ∙ c .enum-told .given .1) in
+    let told = sym (taken-is (c .before .before)) ∙ c .enum-told .given .1 in
+    let done = event-done (a .t1) (a .phy) (a .source) (a .amount) .0 told in
     exists-iff (a .t1) (a .phy) .0 (done .phy-exists) .1
 
 returns : tie.Need-returns

@@ -1,5 +1,5 @@
--- `fresh_phys` meets its contract: the loop's invariant is that the places so far hold the fresh phys of their groups.
--- Assumes nothing.
+-- `shelf::start::fresh_phys` meets its contract: the loop's invariant is that the places so far hold the fresh phys of their
+-- groups. Assumes nothing.
 use Prim.Native.Nat.{_-_}
 use borrow.Author.Needs.{needs}
 use mathlib.Core.Path.{refl, ap, _∙_}

@@ -1,4 +1,4 @@
--- `fresh_shelf` meets its contract: its phys are those that `fresh_phys` ensures. Assumes nothing.
+-- `shelf::start::fresh_shelf` meets its contract: its phys are those that `fresh_phys` ensures. Assumes nothing.
 use borrow.Author.Needs.{needs}
 use Rattle.model.specs.Shelf.{freshShelf}
 use Rattle.shelf.proofs.start.fresh_shelf.Statement.{statement}

@@ -1,4 +1,4 @@
--- `groups_fit` meets its contract: the loop's invariant is that all groups so far are zone groups. Assumes nothing.
+-- `shelf::start::groups_fit` meets its contract: the loop's invariant is that all groups so far are zone groups. Assumes nothing.
 use Prim.Native.Nat.{_-_}
 use mathlib.Core.Path.{refl}
 use borrow.Author.Needs.{needs}

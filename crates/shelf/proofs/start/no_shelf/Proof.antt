@@ -1,4 +1,4 @@
--- `no_shelf` meets its contract, which is that of `fresh_shelf` at 0 everywhere. Assumes nothing.
+-- `shelf::start::no_shelf` meets its contract, which is that of `fresh_shelf` at 0 everywhere. Assumes nothing.
 use borrow.Author.Needs.{needs}
 use Rattle.model.specs.Shelf.{noShelf}
 use Rattle.shelf.proofs.start.no_shelf.Statement.{statement}

@@ -1,4 +1,4 @@
--- `start` meets its contract: what is told is what `start_taken` ensures, and each arm makes its own shelf.
+-- `shelf::start::start` meets its contract: what is told is what `start_taken` ensures, and each arm makes its own shelf.
 -- Assumes nothing.
 use borrow.Author.Needs.{needs}
 use Rattle.model.specs.Shelf.{start}

@@ -1,4 +1,4 @@
--- `start_group` meets its contract: the branch is the definition's. Assumes nothing.
+-- `shelf::start::start_group` meets its contract: the branch is the definition's. Assumes nothing.
 use borrow.Author.Needs.{needs}
 use borrow.Author.Tests.{lt-ltb, le-ltb}
 use Rattle.shelf.proofs.start.start_group.Statement.{statement}

@@ -1,4 +1,4 @@
--- `start_taken` meets its contract: the branches are the refusals H1, H2 and H3, in this order. Assumes nothing.
+-- `shelf::start::start_taken` meets its contract: the branches are the refusals H1, H2 and H3, in this order. Assumes nothing.
 use borrow.Author.Needs.{needs}
 use borrow.Author.Tests.{not-true, not-false}
 use mathlib.Core.Path.{_≡_}

@@ -1,4 +1,4 @@
--- `legal_table` meets its contract: its three tests are the definition's. Assumes nothing.
+-- `shelf::table::legal_table` meets its contract: its three tests are the definition's. Assumes nothing.
 use borrow.Author.Needs.{needs}
 use Rattle.model.specs.Zone.{legalTable}
 use Rattle.shelf.proofs.table.legal_table.Statement.{statement}

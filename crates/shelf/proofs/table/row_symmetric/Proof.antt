@@ -1,5 +1,5 @@
--- `row_symmetric` meets its contract. The loop's invariant is that all bits so far are mirrored; for a group of 0 to 31
--- the row test is the bit. Assumes nothing.
+-- `shelf::table::row_symmetric` meets its contract. The loop's invariant is that all bits so far are mirrored; for a group
+-- of 0 to 31 the row test is the bit. Assumes nothing.
 use Prim.Native.Nat.{_-_}
 use mathlib.Core.Bool.{Bool·beq}
 use borrow.Author.Needs.{needs}

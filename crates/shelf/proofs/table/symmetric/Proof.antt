@@ -1,17 +1,14 @@
--- `symmetric` meets its contract: the loop's invariant is that all rows so far are symmetric. Assumes nothing.
+-- `shelf::table::symmetric` meets its contract: the loop's invariant is that all rows so far are symmetric. Assumes nothing.
 use Prim.Native.Nat.{_-_}
-use mathlib.Core.Bool.{Bool·beq}
 use borrow.Author.Needs.{needs}
 use native.Mathlib.Omega.{arith}
-use Rattle.model.specs.Tests.{allBelow}
-use Rattle.model.specs.Zone.{bit, row, symmetric}
+use Rattle.model.specs.Zone.{rowSymmetric, symmetric}
 use Rattle.shelf.proofs.table.symmetric.Statement.{statement}
 use Rattle.shelf.proofs.table.symmetric.Tie as tie
 use Rattle.shelf.proofs.All.{AllSoFar, all-begin, all-turn, all-end}
 
 abbrev Inv-loop : tie.InvT-loop
-Inv-loop table ok₀ g₀ ok g =
-    AllSoFar 32 (λ k. allBelow 32 (λ h. Bool·beq (bit (row table k) h) (bit (row table h) k))) g ok
+Inv-loop table ok₀ g₀ ok g = AllSoFar 32 (λ k. rowSymmetric table k) g ok
 
 abbrev μ-loop : tie.MeasureT-loop
 μ-loop table ok₀ g₀ ok g = 32 - g
