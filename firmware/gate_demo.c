@@ -14,18 +14,18 @@ static void judge(const char *what, const uint8_t *frame, size_t size)
     uint32_t told = smp_judge_frame(frame, size);
     printf("%s:", what);
     for (size_t i = 0; i < size && i < 12; i++)
-        printf(" %02X", frame[i]);
+        printf(" %02X", (unsigned)frame[i]);
     if (size > 12)
         printf(" .. (%zu bytes)", size);
     printf("\n    %08X: ", (unsigned)told);
     if (smp_told_has_function(told))
-        printf("function %02Xh, ", smp_told_function(told));
+        printf("function %02Xh, ", (unsigned)smp_told_function(told));
     else
         printf("no function to tell, ");
     if (smp_told_house(told) != 0)
         printf("H%d\n", smp_told_house(told));
     else if (smp_told_result(told) != 0)
-        printf("result %02Xh\n", smp_told_result(told));
+        printf("result %02Xh\n", (unsigned)smp_told_result(told));
     else
         printf("%s\n", smp_told_nothing_wrong(told) ? "nothing wrong" : "?");
 }
@@ -57,14 +57,20 @@ int main(void)
     static const uint8_t error_log[] = {0x40, 0x11, 0, 0x02, 0, 0, 0, 0, 0, 4, 0, 0};
     static const uint8_t error_log_00[] = {0x40, 0x11, 0, 0x00, 0, 0, 0, 0, 0, 0, 0, 0};
     static const uint8_t response[] = {0x41, 0x14, 0x16, 0x00};
-    static uint8_t control[40] = {0x40, 0x91, 0, 0x09};
+    static const uint8_t manufacturer[] = {0x40, 0x01, 0x00, 0x00};
+    static const uint8_t broadcast[] = {0x40, 0x06, 0x04, 0x00};
+    static const uint8_t control[40] = {0x40, 0x91, 0, 0x09};
+    static const uint8_t control_00[40] = {0x40, 0x91, 0, 0x00};
 
     puts("Good frames.");
     judge("REPORT GENERAL", general, sizeof general);
+    judge("REPORT MANUFACTURER INFORMATION", manufacturer, sizeof manufacturer);
+    judge("REPORT BROADCAST, case 9", broadcast, sizeof broadcast);
     judge("REPORT PHY EVENT, case 2", phy_event, sizeof phy_event);
     judge("REPORT PHY ERROR LOG, case 4", error_log_00, sizeof error_log_00);
     judge("REPORT PHY ERROR LOG of a phy that is judged later, case 5", error_log, sizeof error_log);
     judge("PHY CONTROL", control, sizeof control);
+    judge("PHY CONTROL with length 00h", control_00, sizeof control_00);
     judge_configure("CONFIGURE PHY EVENT of no descriptor", 12, 0x02, 0);
     judge_configure("CONFIGURE PHY EVENT of two descriptors", 28, 0x06, 2);
     judge_configure("CONFIGURE PHY EVENT of 126, the most that byte 3 can say", 1020, 0xFE, 126);

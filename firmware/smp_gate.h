@@ -2,9 +2,12 @@
  * judging one request frame alone, and the row test of the permission table.
  *
  * They are written in Rattle and proved (crates/gate): each returns exactly what its definition
- * says, for every argument. `rt staticlib gate` writes target/staticlib/libgate.a, which holds
- * them; nothing else has to be linked. Neither keeps anything between two calls, allocates, or
- * writes to memory of the caller's.
+ * says, for every argument that keeps what is asked of C below. `rt staticlib gate` writes
+ * target/staticlib/libgate.a, for x86-64, which holds them and refers to no other library. Neither
+ * keeps anything between two calls, allocates, or writes to memory of the caller's.
+ *
+ * The proof is of the Rattle source. It covers neither the compiler's back end nor this header,
+ * which nothing compares with that source: firmware/run tries both.
  */
 #ifndef SMP_GATE_H
 #define SMP_GATE_H
@@ -22,7 +25,7 @@ extern "C" {
  * frame   the bytes as they came from the link layer. What C owes: it is not NULL, not even where
  *         size is 0; `size` bytes from it on are readable and have been set; and nobody changes
  *         them during the call.
- * size    how many bytes there are; any number, since a wrong one is judged.
+ * size    how many bytes came, and never more than are readable. A frame of any length is judged.
  *
  * The answer is one number in four parts of 8 bits, which the smp_told_ functions below take out.
  * The definition is frameNumber in crates/gate/specs/FrameNumber.antt.
@@ -42,7 +45,8 @@ static inline uint8_t smp_told_house(uint32_t told) { return (uint8_t)(told >> 1
 /* Bits 24 to 31: whether there is a function to tell. A frame under four bytes has none. */
 static inline bool smp_told_has_function(uint32_t told) { return told >> 24 == 1; }
 
-/* Nothing wrong: the frame is a request that the server will read. */
+/* Nothing wrong: none of H6, 01h and 03h. The server may still refuse the request or fail it, for
+ * what it sees in the shelf. */
 static inline bool smp_told_nothing_wrong(uint32_t told) { return (told & 0x00FFFF00) == 0; }
 
 /* Whether a row of the permission table reaches a zone group: the row's bit of that group, and no
