@@ -1,2 +1,3 @@
--- Facts of the gate's own definition.
+-- Facts of the number that C is told.
 pub mod Parts
+pub mod Told

@@ -21,7 +21,7 @@ pub record Parts (frame : List ℕ) (n : ℕ) : Type 0 where
   pub house : n / 0x10000 % 0x100 ≡ housePart (judge frame)
   pub told : n / 0x1000000 ≡ toldPart frame
 
--- the judge gives no other numbers than 6, 01h and 03h
+-- the numbers that the judge gives are at most 6 and 03h
 abbrev Low : Judged → Type 0
 Low judged = (housePart judged ≤ 6) × (resultPart judged ≤ 0x03)
 

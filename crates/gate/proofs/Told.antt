@@ -1,0 +1,25 @@
+-- What C is told of some of document 01's frames, checked on the definition as one list. Assumes nothing.
+use Prim.Native.Nat.{ℕ}
+use mathlib.Core.Path.{_≡_, refl}
+use mathlib.Core.List.{List, [], _∷_, map}
+use Rattle.model.specs.Hex.{hex}
+use Rattle.model.specs.Request.{badFrame, known, lengthRight, asked, judge}
+use Rattle.gate.specs.FrameNumber.{frameNumber}
+
+-- each frame, and the number: whether there is a function to tell, house refusal, result, function
+abbrev pub told : List (List ℕ × ℕ)
+told =
+    -- case 2, nothing wrong; case 3, 14h with length 00h; case 5, whose phy is judged later
+    (hex "40 14 00 02 00 00 00 00 00 02 00 00", 0x01000014)
+    ∷ (hex "40 14 00 00 00 00 00 00 00 02 00 00", 0x01000314)
+    ∷ (hex "40 11 00 02 00 00 00 00 00 04 00 00", 0x01000011)
+    -- case 6, an unknown function, and a frame of three bytes, which has no function to tell
+    ∷ (hex "40 02 00 00", 0x01000102)
+    ∷ (hex "40 02 00", 0x00060000)
+    -- a response fed back: H6, and byte 1 is told all the same
+    ∷ (hex "41 14 16 00", 0x01060014)
+    ∷ []
+
+pub told-right : map (λ entry. frameNumber (entry .0)) told ≡ map (λ entry. entry .1) told
+unfolding frameNumber judge badFrame known lengthRight asked
+told-right = refl
