@@ -1,8 +1,8 @@
--- `shelf::reports::amount_too_large` meets its contract, which it reads like. Assumes nothing.
+-- `reports::amount_too_large` meets its contract, which it reads like. Assumes nothing.
 use mathlib.Core.Path.{refl}
 use Rattle.model.specs.Reports.{amountTooLarge}
-use Rattle.shelf.proofs.reports.amount_too_large.Statement.{statement}
-use Rattle.shelf.proofs.reports.amount_too_large.Tie as tie
+use Rattle.reports.proofs.amount_too_large.Statement.{statement}
+use Rattle.reports.proofs.amount_too_large.Tie as tie
 
 returns : tie.Need-returns
 unfolding amountTooLarge

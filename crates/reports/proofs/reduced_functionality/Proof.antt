@@ -1,8 +1,8 @@
--- `shelf::reports::reduced_functionality` meets its contract: one count is originated, and the rest stays. Assumes nothing.
+-- `reports::reduced_functionality` meets its contract: one count is originated, and the rest stays. Assumes nothing.
 use borrow.Author.Needs.{needs}
 use Rattle.model.specs.Reports.{reducedFunctionality}
-use Rattle.shelf.proofs.reports.reduced_functionality.Statement.{statement}
-use Rattle.shelf.proofs.reports.reduced_functionality.Tie as tie
+use Rattle.reports.proofs.reduced_functionality.Statement.{statement}
+use Rattle.reports.proofs.reduced_functionality.Tie as tie
 
 originate-requires : tie.Need-originate-requires
 originate-requires c κs = search needs

@@ -1,4 +1,4 @@
--- `shelf::reports::event` meets its contract: where it is done one phy is put back changed, and where not the shelf stays.
+-- `reports::event` meets its contract: where it is done one phy is put back changed, and where not the shelf stays.
 -- A phy that exists is one of the record's 24 places. Assumes nothing.
 use borrow.Author.Needs.{needs}
 use Prim.Native.Nat.{_<_}
@@ -7,8 +7,8 @@ use Rattle.model.specs.Reports.{eventTaken, event}
 use Rattle.model.specs.Shelf.{exists}
 use Rattle.model.proofs.Plain.Reach.{exists-iff}
 use Rattle.model.proofs.Plain.Reports.{event-done}
-use Rattle.shelf.proofs.reports.event.Statement.{statement}
-use Rattle.shelf.proofs.reports.event.Tie as tie
+use Rattle.reports.proofs.event.Statement.{statement}
+use Rattle.reports.proofs.event.Tie as tie
 
 exists-requires : tie.Need-exists-requires
 exists-requires c κs = search needs

@@ -1,4 +1,4 @@
--- `shelf::reports::link_change` meets its contract: where the phy exists it is put back changed, and where not the shelf stays.
+-- `reports::link_change` meets its contract: where the phy exists it is put back changed, and where not the shelf stays.
 -- Assumes nothing.
 use borrow.Author.Needs.{needs}
 use Prim.Native.Nat.{_<_}
@@ -9,8 +9,8 @@ use lib.Dec.{T}
 use Rattle.model.specs.Reports.{linkChange}
 use Rattle.model.specs.Shelf.{exists}
 use Rattle.model.proofs.Plain.Reach.{exists-iff}
-use Rattle.shelf.proofs.reports.link_change.Statement.{statement}
-use Rattle.shelf.proofs.reports.link_change.Tie as tie
+use Rattle.reports.proofs.link_change.Statement.{statement}
+use Rattle.reports.proofs.link_change.Tie as tie
 
 exists-requires : tie.Need-exists-requires
 exists-requires c κs = search needs

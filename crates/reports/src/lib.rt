@@ -1,6 +1,9 @@
 // The reports: "An event report names phy, source and a 32-bit amount." "Other reports: a link change
 // on a phy (Change), and two device notices (Expander 3h, SES)."
-use crate::phys::exists;
+//
+// A shelf goes in by value and comes back by value. Each public function is proved equal to a
+// definition of the model (crates/model/specs/Reports), and bears its name. None asks anything of its
+// caller.
 use counters::counts::originate;
 use counters::phy::change_on;
 use counters::phy::event_on;
@@ -9,6 +12,7 @@ use model::House;
 use model::Outcome;
 use model::Shelf;
 use model::Taken;
+use shelf::phys::exists;
 ghost use mathlib.Core.Path.{_≡_};
 ghost use Rattle.model.specs.Reports.{amountTooLarge, eventTaken, event, linkChange};
 ghost use Rattle.model.specs.Reports.{reducedFunctionality, sesNotice};

@@ -1,4 +1,4 @@
--- `shelf::reports::event_taken` meets its contract: the tests in their order are those of the definition. Assumes nothing.
+-- `reports::event_taken` meets its contract: the tests in their order are those of the definition. Assumes nothing.
 use borrow.Author.Needs.{needs}
 use borrow.Author.Tests.{not-true, not-false}
 use mathlib.Core.Path.{_≡_}
@@ -7,8 +7,8 @@ use Rattle.model.specs.declared.House.the-variants.{Amount}
 use Rattle.model.specs.declared.Taken.the-variants.{Done, NotDone}
 use Rattle.model.specs.Reports.{eventTaken}
 use Rattle.model.specs.Tests.{given}
-use Rattle.shelf.proofs.reports.event_taken.Statement.{statement}
-use Rattle.shelf.proofs.reports.event_taken.Tie as tie
+use Rattle.reports.proofs.event_taken.Statement.{statement}
+use Rattle.reports.proofs.event_taken.Tie as tie
 
 returns : tie.Need-returns
 unfolding eventTaken

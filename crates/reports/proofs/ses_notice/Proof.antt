@@ -1,8 +1,8 @@
--- `shelf::reports::ses_notice` meets its contract: one count is originated, and the rest stays. Assumes nothing.
+-- `reports::ses_notice` meets its contract: one count is originated, and the rest stays. Assumes nothing.
 use borrow.Author.Needs.{needs}
 use Rattle.model.specs.Reports.{sesNotice}
-use Rattle.shelf.proofs.reports.ses_notice.Statement.{statement}
-use Rattle.shelf.proofs.reports.ses_notice.Tie as tie
+use Rattle.reports.proofs.ses_notice.Statement.{statement}
+use Rattle.reports.proofs.ses_notice.Tie as tie
 
 originate-requires : tie.Need-originate-requires
 originate-requires c κs = search needs
