@@ -52,32 +52,31 @@ fn length_right(frame: &[u8]) -> bool
     }
 }
 
-// What a frame of a known function and a right length asks.
+// What a frame of a known function and a right length asks: the expected count is in bytes 4 and 5, and
+// the phy in byte 9, of every function that has them.
 fn asked(frame: &[u8]) -> Request
     ensures { λ r. ⌜ r ≡ asked (now (frame .entry)) ⌝ }
 {
     let function = byte_at(frame, 1);
+    let expected = word_of(byte_at(frame, 4), byte_at(frame, 5));
+    let phy = byte_at(frame, 9);
     match function {
         0x00 => Request::ReportGeneral,
         0x01 => Request::ReportManufacturer,
         0x06 => Request::ReportBroadcast {
             kind: byte_at(frame, 2),
         },
-        0x11 => Request::ReportPhyErrorLog {
-            phy: byte_at(frame, 9),
-        },
-        0x14 => Request::ReportPhyEvent {
-            phy: byte_at(frame, 9),
-        },
+        0x11 => Request::ReportPhyErrorLog { phy },
+        0x14 => Request::ReportPhyEvent { phy },
         0x91 => Request::PhyControl {
-            expected: word_of(byte_at(frame, 4), byte_at(frame, 5)),
-            phy: byte_at(frame, 9),
+            expected,
+            phy,
             operation: byte_at(frame, 10),
         },
         _ => Request::ConfigurePhyEvent {
-            expected: word_of(byte_at(frame, 4), byte_at(frame, 5)),
+            expected,
             clear: byte_at(frame, 6) % 2 == 1,
-            phy: byte_at(frame, 9),
+            phy,
             number: byte_at(frame, 11),
         },
     }

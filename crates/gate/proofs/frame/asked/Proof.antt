@@ -2,10 +2,12 @@
 -- Assumes nothing.
 use borrow.Author.Needs.{needs}
 use borrow.Author.Tests.{ne-eqb}
-use native.Mathlib.Nat.{div-one}
 use Prim.Native.Nat.{ℕ}
+use native.Mathlib.Nat.{div-one}
 use mathlib.Core.Path.{_≡_, sym, _∙_}
+use mathlib.Core.List.{List}
 use denote.Ref.{now}
+use Rattle.model.specs.Bytes.{word}
 use Rattle.model.specs.Request.{functionOf, asked}
 use Rattle.gate.proofs.frame.asked.Statement.{statement}
 use Rattle.gate.proofs.frame.asked.Tie as tie
@@ -19,6 +21,9 @@ byte-at-requires-2 c κs = search needs
 byte-at-requires-3 : tie.Need-byte-at-requires-3
 byte-at-requires-3 c κs = search needs
 
+word-of-requires : tie.Need-word-of-requires
+word-of-requires c κs = search needs
+
 byte-at-requires-4 : tie.Need-byte-at-requires-4
 byte-at-requires-4 c κs = search needs
 
@@ -28,73 +33,52 @@ byte-at-requires-5 c κs = search needs
 byte-at-requires-6 : tie.Need-byte-at-requires-6
 byte-at-requires-6 c κs = search needs
 
-word-of-requires : tie.Need-word-of-requires
-word-of-requires c κs = search needs
-
 byte-at-requires-7 : tie.Need-byte-at-requires-7
 byte-at-requires-7 c κs = search needs
 
 byte-at-requires-8 : tie.Need-byte-at-requires-8
 byte-at-requires-8 c κs = search needs
 
-byte-at-requires-9 : tie.Need-byte-at-requires-9
-byte-at-requires-9 c κs = search needs
+-- what was read before the match: the function, which in the arm of a key is the key, and the expected count
+abbrev frameOf : tie.After-byte-at4 → List ℕ
+frameOf c = now (c .before .before .before .before .before .before .args .frame)
 
-byte-at-requires-10 : tie.Need-byte-at-requires-10
-byte-at-requires-10 c κs = search needs
+function-is : (c : tie.After-byte-at4) {key : ℕ} → c .before .before .before .before .byte-at .result ≡ key
+    → functionOf (frameOf c) ≡ key
+function-is c is-key = sym (c .before .before .before .before .byte-at .ensures) ∙ is-key
 
-word-of-requires-2 : tie.Need-word-of-requires-2
-word-of-requires-2 c κs = search needs
-
-byte-at-requires-11 : tie.Need-byte-at-requires-11
-byte-at-requires-11 c κs = search needs
-
-byte-at-requires-12 : tie.Need-byte-at-requires-12
-byte-at-requires-12 c κs = search needs
-
-byte-at-requires-13 : tie.Need-byte-at-requires-13
-byte-at-requires-13 c κs = search needs
-
--- the function of the frame, in the arm of a key
-function-is : (c : tie.After-byte-at) {key : ℕ} → c .byte-at .result ≡ key
-    → functionOf (now (c .before .before .args .frame)) ≡ key
-function-is c is-key = sym (c .byte-at .ensures) ∙ is-key
+expected-is : (c : tie.After-byte-at4) → c .before .word-of .result ≡ word (frameOf c) 4
+expected-is c =
+    rw (c .before .word-of .ensures, c .before .before .before .byte-at2 .ensures, c .before .before .byte-at3 .ensures)
 
 returns : tie.Need-returns
 unfolding asked
-returns c =
-    rw (function-is (c .before) (c .match .keys1))
+returns c = rw (function-is (c .before) (c .match .keys1))
 
 returns-2 : tie.Need-returns-2
 unfolding asked
-returns-2 c =
-    rw (function-is (c .before) (c .match .keys2))
+returns-2 c = rw (function-is (c .before) (c .match .keys2))
 
 returns-3 : tie.Need-returns-3
 unfolding asked
-returns-3 c =
-    rw (function-is (c .before .before) (c .before .match .keys3), c .byte-at2 .ensures)
+returns-3 c = rw (function-is (c .before .before) (c .before .match .keys3), c .byte-at5 .ensures)
 
 returns-4 : tie.Need-returns-4
 unfolding asked
-returns-4 c =
-    rw (function-is (c .before .before) (c .before .match .keys4), c .byte-at3 .ensures)
+returns-4 c = rw (function-is (c .before) (c .match .keys4), c .before .byte-at4 .ensures)
 
 returns-5 : tie.Need-returns-5
 unfolding asked
-returns-5 c =
-    rw (function-is (c .before .before) (c .before .match .keys5), c .byte-at4 .ensures)
+returns-5 c = rw (function-is (c .before) (c .match .keys5), c .before .byte-at4 .ensures)
 
 returns-6 : tie.Need-returns-6
 unfolding asked
 returns-6 c =
     rw (
-      function-is (c .before .before .before .before .before .before) (c .before .before .before .before .before .match .keys6),
-      c .before .before .word-of .ensures,
-      c .before .before .before .before .byte-at5 .ensures,
-      c .before .before .before .byte-at6 .ensures,
-      c .before .byte-at7 .ensures,
-      c .byte-at8 .ensures,
+      function-is (c .before .before) (c .before .match .keys6),
+      expected-is (c .before .before),
+      c .before .before .byte-at4 .ensures,
+      c .byte-at6 .ensures,
     )
 
 returns-7 : tie.Need-returns-7
@@ -102,18 +86,16 @@ unfolding asked
 returns-7 c =
     simp (
       sym (c .before .before .before .before .before .before .before .byte-at .ensures),
-      ne-eqb _ _ (c .before .before .before .before .before .before .match .rest .0 .0 .0 .0 .0 .1),
-      ne-eqb _ _ (c .before .before .before .before .before .before .match .rest .0 .0 .0 .0 .1),
-      ne-eqb _ _ (c .before .before .before .before .before .before .match .rest .0 .0 .0 .1),
-      ne-eqb _ _ (c .before .before .before .before .before .before .match .rest .0 .0 .1),
-      ne-eqb _ _ (c .before .before .before .before .before .before .match .rest .0 .1),
-      ne-eqb _ _ (c .before .before .before .before .before .before .match .rest .1),
-      c .before .before .before .word-of2 .ensures,
-      c .before .before .before .before .before .byte-at9 .ensures,
-      c .before .before .before .before .byte-at10 .ensures,
-      c .before .before .byte-at11 .ensures,
-      c .before .byte-at12 .ensures,
-      c .byte-at13 .ensures,
+      ne-eqb _ _ (c .before .before .match .rest .0 .0 .0 .0 .0 .1),
+      ne-eqb _ _ (c .before .before .match .rest .0 .0 .0 .0 .1),
+      ne-eqb _ _ (c .before .before .match .rest .0 .0 .0 .1),
+      ne-eqb _ _ (c .before .before .match .rest .0 .0 .1),
+      ne-eqb _ _ (c .before .before .match .rest .0 .1),
+      ne-eqb _ _ (c .before .before .match .rest .1),
+      expected-is (c .before .before .before),
+      c .before .before .before .byte-at4 .ensures,
+      c .before .byte-at7 .ensures,
+      c .byte-at8 .ensures,
       div-one,
     )
 
@@ -124,18 +106,12 @@ asked-spec =
     byte-at-requires
     byte-at-requires-2
     byte-at-requires-3
+    word-of-requires
     byte-at-requires-4
     byte-at-requires-5
     byte-at-requires-6
-    word-of-requires
     byte-at-requires-7
     byte-at-requires-8
-    byte-at-requires-9
-    byte-at-requires-10
-    word-of-requires-2
-    byte-at-requires-11
-    byte-at-requires-12
-    byte-at-requires-13
     returns
     returns-2
     returns-3
