@@ -26,28 +26,29 @@ abbrev pub response : ℕ → ℕ → ℕ → List (ℕ × List ℕ) → List �
 response function size dwords named = laid (0x41 ∷ function ∷ 0x00 ∷ dwords ∷ zeros (size - 4)) named
 
 -- "Except for 91h and 93h, an accepted response has the change count in bytes 4 and 5."
-abbrev pub changeCount : Shelf → ℕ × List ℕ
-changeCount s = (4, two (s .changes))
+abbrev pub changeCount : ℕ → ℕ × List ℕ
+changeCount changes = (4, two changes)
 
 -- 00h: "Response 36 bytes, length 08h: 9 number of phys, 12 to 19 identifier."
-unfoldable pub reportGeneral : Shelf → List ℕ
-reportGeneral s = response 0x00 36 0x08 (changeCount s ∷ (9, one (phyNumber s)) ∷ (12, s .identifier) ∷ [])
+unfoldable pub reportGeneral : ℕ → ℕ → List ℕ → List ℕ
+reportGeneral changes number identifier =
+    response 0x00 36 0x08 (changeCount changes ∷ (9, one number) ∷ (12, identifier) ∷ [])
 
 -- 01h: "Response 60 bytes, length 0Eh: 12 to 19 the fixed text `RAILYARD`, 20 to 35 `PORTAL SHELF` and four spaces, 36 to 39 `0001`."
-unfoldable pub reportManufacturer : Shelf → List ℕ
-reportManufacturer s =
+unfoldable pub reportManufacturer : ℕ → List ℕ
+reportManufacturer changes =
     response 0x01 60 0x0E
-    (changeCount s ∷ (12, text "RAILYARD") ∷ (20, text "PORTAL SHELF    ") ∷ (36, text "0001") ∷ [])
+    (changeCount changes ∷ (12, text "RAILYARD") ∷ (20, text "PORTAL SHELF    ") ∷ (36, text "0001") ∷ [])
 
 -- 11h: "Response 28 bytes, length 06h: 9 phy, then invalid dwords at 12, disparity errors at 16, lost synchronization at 20,
 -- reset problems at 24."
 abbrev pub errorAt : Phy → ℕ → ℕ
 errorAt x i = getD (x .errors) i 0
 
-unfoldable pub reportPhyErrorLog : Shelf → ℕ → Phy → List ℕ
-reportPhyErrorLog s p x =
+unfoldable pub reportPhyErrorLog : ℕ → ℕ → Phy → List ℕ
+reportPhyErrorLog changes p x =
     response 0x11 28 0x06
-    (changeCount s
+    (changeCount changes
     ∷ (9, one p)
     ∷ (12, four (errorAt x 0))
     ∷ (16, four (errorAt x 1))
@@ -63,10 +64,10 @@ monitorAt x i = getD (x .monitors) i freshMonitor
 abbrev pub eventDescriptor : Monitor → List ℕ
 eventDescriptor m = laid (zeros 12) ((3, one (m .source)) ∷ (4, four (m .value)) ∷ (8, four (m .threshold)) ∷ [])
 
-unfoldable pub reportPhyEvent : Shelf → ℕ → Phy → List ℕ
-reportPhyEvent s p x =
+unfoldable pub reportPhyEvent : ℕ → ℕ → Phy → List ℕ
+reportPhyEvent changes p x =
     response 0x14 64 0x0F
-    (changeCount s
+    (changeCount changes
     ∷ (9, one p)
     ∷ (15, one 4)
     ∷ (16, eventDescriptor (monitorAt x 0))
@@ -106,25 +107,27 @@ broadcasts s g kind =
     ++ joinBelow (phyNumber s) (λ p. cond (reaches s g p) (phyListed kind p (phyAt s p)) [])
 
 -- "n descriptors of 8 bytes .. Descriptor: 0 phy, 2 reason, 4 and 5 count." (A T10 paper shows it as 16 bytes too; 8 holds.)
+abbrev pub broadcastDescriptor : Broadcast → List ℕ
+broadcastDescriptor b = laid (zeros 8) ((0, one (b .phy)) ∷ (2, one (b .reason)) ∷ (4, two (b .count)) ∷ [])
+
 unfoldable pub broadcastBytes : List Broadcast → List ℕ
 broadcastBytes [] = []
-broadcastBytes (b ∷ bs) =
-    laid (zeros 8) ((0, one (b .phy)) ∷ (2, one (b .reason)) ∷ (4, two (b .count)) ∷ []) ++ broadcastBytes bs
+broadcastBytes (b ∷ bs) = broadcastDescriptor b ++ broadcastBytes bs
 
 -- 06h: "Response: 6 type, 7 number n, then n descriptors of 8 bytes, length 1 + 2n."
-abbrev pub broadcastFrame : Shelf → ℕ → List Broadcast → List ℕ
-broadcastFrame s kind bs =
-    response 0x06 8 (1 + 2 * length bs) (changeCount s ∷ (6, one kind) ∷ (7, one (length bs)) ∷ []) ++ broadcastBytes bs
+abbrev pub broadcastFrame : ℕ → ℕ → List Broadcast → List ℕ
+broadcastFrame changes kind bs =
+    response 0x06 8 (1 + 2 * length bs) (changeCount changes ∷ (6, one kind) ∷ (7, one (length bs)) ∷ []) ++ broadcastBytes bs
 
 unfoldable pub reportBroadcast : Shelf → ℕ → ℕ → List ℕ
-reportBroadcast s g kind = broadcastFrame s kind (broadcasts s g kind)
+reportBroadcast s g kind = broadcastFrame (s .changes) kind (broadcasts s g kind)
 
 -- The accepted response to each request, to source group g. 91h and 93h: "Response 4 bytes."
 unfoldable pub respond : Shelf → ℕ → Request → List ℕ
-respond s g ReportGeneral = reportGeneral s
-respond s g ReportManufacturer = reportManufacturer s
+respond s g ReportGeneral = reportGeneral (s .changes) (phyNumber s) (s .identifier)
+respond s g ReportManufacturer = reportManufacturer (s .changes)
 respond s g (ReportBroadcast kind) = reportBroadcast s g kind
-respond s g (ReportPhyErrorLog p) = reportPhyErrorLog s p (phyAt s p)
-respond s g (ReportPhyEvent p) = reportPhyEvent s p (phyAt s p)
+respond s g (ReportPhyErrorLog p) = reportPhyErrorLog (s .changes) p (phyAt s p)
+respond s g (ReportPhyEvent p) = reportPhyEvent (s .changes) p (phyAt s p)
 respond s g (PhyControl expected p operation) = response 0x91 4 0x00 []
 respond s g (ConfigurePhyEvent expected clear p d) = response 0x93 4 0x00 []

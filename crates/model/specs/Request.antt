@@ -59,6 +59,16 @@ asked frame =
     (cond (eqb (functionOf frame) 0x91) (PhyControl (word frame 4) (byte frame 9) (byte frame 10))
     (ConfigurePhyEvent (word frame 4) (bit (byte frame 6) 0) (byte frame 9) (byte frame 11)))))))
 
+-- the phy of a function that has one; a request without a phy names none, and nothing asks for it
+abbrev pub phyOf : Request → ℕ
+phyOf ReportGeneral = 0
+phyOf ReportManufacturer = 0
+phyOf (ReportBroadcast kind) = 0
+phyOf (ReportPhyErrorLog p) = p
+phyOf (ReportPhyEvent p) = p
+phyOf (PhyControl expected p operation) = p
+phyOf (ConfigurePhyEvent expected clear p d) = p
+
 unfoldable pub judge : List ℕ → Judged
 judge frame =
     given (badFrame frame) (NoFrame BadFrame)

@@ -15,7 +15,7 @@ use Rattle.model.specs.declared.Request.the-variants.{ReportPhyErrorLog,
 use Rattle.model.specs.declared.Request.the-variants.{ConfigurePhyEvent}
 use Rattle.model.specs.declared.Shelf.{Shelf}
 use Rattle.model.specs.Reach.{reaches}
-use Rattle.model.specs.Request.{firstUnsupported}
+use Rattle.model.specs.Request.{phyOf, firstUnsupported}
 use Rattle.model.specs.Shelf.{exists}
 use Rattle.model.specs.Tests.{check, oneOf}
 
@@ -35,29 +35,30 @@ abbrev pub accepted : FunctionResult → Bool
 accepted result = eqb (resultCode result) 0x00
 
 -- not 04h: "91h and 93h, when bytes 4 and 5 are neither 0000h nor the present count"
-unfoldable pub countRight : Shelf → ℕ → Bool
-countRight s expected = oneOf (0x0000 ∷ s .changes ∷ []) expected
+unfoldable pub countRight : ℕ → ℕ → Bool
+countRight changes expected = oneOf (0x0000 ∷ changes ∷ []) expected
 
 -- not 13h: "91h, any operation not named below"
 unfoldable pub knownOperation : ℕ → Bool
 knownOperation operation = oneOf (0x00 ∷ 0x01 ∷ 0x03 ∷ 0x05 ∷ []) operation
 
--- "10h PHY DOES NOT EXIST (functions with a phy, byte 9)", then "Not reached", with its result, then what is left to judge
-abbrev pub checkPhy : Shelf → ℕ → ℕ → FunctionResult → FunctionResult → FunctionResult
-checkPhy s g p notReached rest =
-    check (exists s p) PhyDoesNotExist
-    (check (reaches s g p) notReached
+-- "10h PHY DOES NOT EXIST (functions with a phy, byte 9)", then "Not reached", with its result, then what is left to judge:
+-- whether the phy exists, and whether the source reaches it
+abbrev pub checkPhy : Bool → Bool → FunctionResult → FunctionResult → FunctionResult
+checkPhy there reached notReached rest =
+    check there PhyDoesNotExist
+    (check reached notReached
     rest)
 
 -- "16h PHY VACANT for 11h and 14h"
-abbrev pub checkRead : Shelf → ℕ → ℕ → FunctionResult
-checkRead s g p = checkPhy s g p PhyVacant Accepted
+abbrev pub checkRead : Bool → Bool → FunctionResult
+checkRead there reached = checkPhy there reached PhyVacant Accepted
 
--- "20h SMP ZONE VIOLATION for 91h and 93h", after 04h and before the contents
-abbrev pub checkWrite : Shelf → ℕ → ℕ → ℕ → FunctionResult → FunctionResult
-checkWrite s g expected p contents =
-    check (countRight s expected) InvalidExpanderChangeCount
-    (checkPhy s g p SmpZoneViolation
+-- "20h SMP ZONE VIOLATION for 91h and 93h", after 04h and before the contents: whether the count is right comes first
+abbrev pub checkWrite : Bool → Bool → Bool → FunctionResult → FunctionResult
+checkWrite count there reached contents =
+    check count InvalidExpanderChangeCount
+    (checkPhy there reached SmpZoneViolation
     contents)
 
 -- "02h SMP FUNCTION FAILED for .. more than four descriptors (93h); then 17h UNKNOWN PHY EVENT SOURCE (93h)"
@@ -67,13 +68,20 @@ checkDescriptors frame d =
     (check (eqb (firstUnsupported frame d 0) d) UnknownPhyEventSource
     Accepted)
 
--- The result of a request that was read from this frame, from source group g. 01h and 03h are behind it: `judge` gives them.
+-- The result of a request that was read from this frame. 01h and 03h are behind it: `judge` gives them. Of the shelf it asks
+-- the present change count, whether the request's phy exists, and whether the source reaches it.
+unfoldable pub resultOf : ℕ → Bool → Bool → List ℕ → Request → FunctionResult
+resultOf changes there reached frame ReportGeneral = Accepted
+resultOf changes there reached frame ReportManufacturer = Accepted
+resultOf changes there reached frame (ReportBroadcast kind) = check (leb kind 0x0F) SmpFunctionFailed Accepted
+resultOf changes there reached frame (ReportPhyErrorLog p) = checkRead there reached
+resultOf changes there reached frame (ReportPhyEvent p) = checkRead there reached
+resultOf changes there reached frame (PhyControl expected p operation) =
+    checkWrite (countRight changes expected) there reached (check (knownOperation operation) UnknownPhyOperation Accepted)
+resultOf changes there reached frame (ConfigurePhyEvent expected clear p d) =
+    checkWrite (countRight changes expected) there reached (checkDescriptors frame d)
+
+-- .. and so its result on this shelf, from source group g
 unfoldable pub decide : Shelf → ℕ → List ℕ → Request → FunctionResult
-decide s g frame ReportGeneral = Accepted
-decide s g frame ReportManufacturer = Accepted
-decide s g frame (ReportBroadcast kind) = check (leb kind 0x0F) SmpFunctionFailed Accepted
-decide s g frame (ReportPhyErrorLog p) = checkRead s g p
-decide s g frame (ReportPhyEvent p) = checkRead s g p
-decide s g frame (PhyControl expected p operation) =
-    checkWrite s g expected p (check (knownOperation operation) UnknownPhyOperation Accepted)
-decide s g frame (ConfigurePhyEvent expected clear p d) = checkWrite s g expected p (checkDescriptors frame d)
+decide s g frame request =
+    resultOf (s .changes) (exists s (phyOf request)) (reaches s g (phyOf request)) frame request

@@ -69,6 +69,16 @@ clearOn x =
 unfoldable pub configured : List ℕ → ℕ → Bool → Phy → Phy
 configured frame d clear x = cond clear (clearOn (setOn frame d x)) (setOn frame d x)
 
+-- An accepted 91h and an accepted 93h on the shelf: another record for their phy, and nothing else but, where Change is
+-- originated, the change count.
+abbrev pub control : Shelf → ℕ → ℕ → Shelf
+control s p operation =
+    put s p (controlled operation (phyAt s p))
+    (cond (controlChanges operation (phyAt s p)) (originate (s .changes)) (s .changes))
+
+abbrev pub configure : Shelf → List ℕ → Bool → ℕ → ℕ → Shelf
+configure s frame clear p d = put s p (configured frame d clear (phyAt s p)) (s .changes)
+
 -- The shelf after an accepted request. Reads change nothing.
 unfoldable pub effect : Shelf → List ℕ → Request → Shelf
 effect s frame ReportGeneral = s
@@ -76,8 +86,5 @@ effect s frame ReportManufacturer = s
 effect s frame (ReportBroadcast kind) = s
 effect s frame (ReportPhyErrorLog p) = s
 effect s frame (ReportPhyEvent p) = s
-effect s frame (PhyControl expected p operation) =
-    put s p (controlled operation (phyAt s p))
-    (cond (controlChanges operation (phyAt s p)) (originate (s .changes)) (s .changes))
-effect s frame (ConfigurePhyEvent expected clear p d) =
-    put s p (configured frame d clear (phyAt s p)) (s .changes)
+effect s frame (PhyControl expected p operation) = control s p operation
+effect s frame (ConfigurePhyEvent expected clear p d) = configure s frame clear p d

@@ -213,19 +213,19 @@ broadcast-bytes-fit (b ∷ bs) small =
 respond-fits : (s : Shelf) (g : ℕ) (request : Request) → Fits s → Small (repeated request) → BytesFit (respond s g request)
 unfolding respond reportGeneral reportManufacturer reportBroadcast reportPhyErrorLog reportPhyEvent
 respond-fits s g ReportGeneral fits small =
-    let before : List ℕ = response 0x00 36 0x08 (changeCount s ∷ (9, one (phyNumber s)) ∷ []) in
+    let before : List ℕ = response 0x00 36 0x08 (changeCount (s .changes) ∷ (9, one (phyNumber s)) ∷ []) in
     sets-each Small 0x00 (s .identifier) before 12 (each-all Small 0x00 (s .identifier) (fits .identifier))
     (fits-by before (omega arith) (omega arith))
-respond-fits s g ReportManufacturer fits small = fits-by (reportManufacturer s) (omega arith) (omega arith)
+respond-fits s g ReportManufacturer fits small = fits-by (reportManufacturer (s .changes)) (omega arith) (omega arith)
 respond-fits s g (ReportBroadcast kind) fits small =
     cut-each Small 0x00 8 (reportBroadcast s g kind) (omega (arith, broadcasts-few s g kind))
     (broadcast-bytes-fit (broadcasts s g kind)
     (λ b m.
     kept-small s kind (b .phy) (b .reason) (b .count) (listed-iff s g kind (b .phy) (b .reason) (b .count) .0 m .0)))
-respond-fits s g (ReportPhyErrorLog p) fits small = fits-by (reportPhyErrorLog s p (phyAt s p)) (omega arith) tt
+respond-fits s g (ReportPhyErrorLog p) fits small = fits-by (reportPhyErrorLog (s .changes) p (phyAt s p)) (omega arith) tt
 respond-fits s g (ReportPhyEvent p) fits small =
     let source : (i : ℕ) → Small (monitorAt (phyAt s p) i .source) = source-small s fits p in
-    fits-by (reportPhyEvent s p (phyAt s p)) (omega (arith, source 0, source 1)) (omega (arith, source 2, source 3))
+    fits-by (reportPhyEvent (s .changes) p (phyAt s p)) (omega (arith, source 0, source 1)) (omega (arith, source 2, source 3))
 respond-fits s g (PhyControl expected p operation) fits small = fits-by (response 0x91 4 0x00 []) (omega arith) tt
 respond-fits s g (ConfigurePhyEvent expected clear p d) fits small = fits-by (response 0x93 4 0x00 []) (omega arith) tt
 

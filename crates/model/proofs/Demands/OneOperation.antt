@@ -20,7 +20,7 @@ use Rattle.model.specs.Reply.{deviceListed, phyListed, broadcasts, broad
 use Rattle.model.specs.Reply.{reportBroadcast, reportPhyErrorLog, reportPhyEvent, respond}
 use Rattle.model.specs.Reports.{eventTaken, event, linkChange, reducedFunctionality, sesNotice}
 use Rattle.model.specs.Request.{asked}
-use Rattle.model.specs.Results.{accepted, countRight, decide}
+use Rattle.model.specs.Results.{accepted, decide}
 use Rattle.model.specs.Runs.{Operation, Ask, Event, LinkChange, ReducedFunctionality, Ses, QueryReach, next, told}
 use Rattle.model.specs.Runs.{Told, Answered, Shown}
 use Rattle.model.specs.Server.{Handled, Sends, handle, lent, answer, served, lentAfter}
@@ -37,14 +37,8 @@ use Rattle.model.proofs.Laws.PhyChanges.{enablesBy, event-inner, change
 module _ (g : ℕ) (s : Shelf) where
   looks-decides : (h : ℕ) (frame : List ℕ) (request : Request)
       → decide (looks g s) h frame request ≡ decide s h frame request
-  unfolding decide countRight
-  looks-decides h frame ReportGeneral = refl
-  looks-decides h frame ReportManufacturer = refl
-  looks-decides h frame (ReportBroadcast kind) = refl
-  looks-decides h frame (ReportPhyErrorLog p) = simp (looks-reaches g s)
-  looks-decides h frame (ReportPhyEvent p) = simp (looks-reaches g s)
-  looks-decides h frame (PhyControl expected p operation) = simp (looks-reaches g s)
-  looks-decides h frame (ConfigurePhyEvent expected clear p d) = simp (looks-reaches g s)
+  unfolding decide
+  looks-decides h frame request = simp (looks-reaches g s)
 
   looks-verdict : (h : ℕ) (frame : List ℕ) → verdict (looks g s) h frame ≡ verdict s h frame
   unfolding verdict
@@ -88,9 +82,9 @@ module _ (g : ℕ) (s : Shelf) where
   unfolding respond reportGeneral reportManufacturer reportBroadcast reportPhyErrorLog reportPhyEvent
   looks-respond frame ReportGeneral e = refl
   looks-respond frame ReportManufacturer e = refl
-  looks-respond frame (ReportBroadcast kind) e = ap (broadcastFrame s kind) (looks-broadcasts kind)
-  looks-respond frame (ReportPhyErrorLog p) e = ap (reportPhyErrorLog s p) (looks-reached g s p (passed-11 s g frame p e .1))
-  looks-respond frame (ReportPhyEvent p) e = ap (reportPhyEvent s p) (looks-reached g s p (passed-14 s g frame p e .1))
+  looks-respond frame (ReportBroadcast kind) e = ap (broadcastFrame (s .changes) kind) (looks-broadcasts kind)
+  looks-respond frame (ReportPhyErrorLog p) e = ap (reportPhyErrorLog (s .changes) p) (looks-reached g s p (passed-11 s g frame p e .1))
+  looks-respond frame (ReportPhyEvent p) e = ap (reportPhyEvent (s .changes) p) (looks-reached g s p (passed-14 s g frame p e .1))
   looks-respond frame (PhyControl expected p operation) e = refl
   looks-respond frame (ConfigurePhyEvent expected clear p d) e = refl
 

@@ -18,7 +18,7 @@ use Rattle.model.specs.House.{answerNumber}
 use Rattle.model.specs.Reach.{reaches}
 use Rattle.model.specs.Reply.{failed, respond}
 use Rattle.model.specs.Request.{functionOf, asked, known, lengthRight, descriptorSource, firstUnsupported}
-use Rattle.model.specs.Results.{resultCode, accepted, countRight, knownOperation, decide}
+use Rattle.model.specs.Results.{resultCode, accepted, countRight, knownOperation, resultOf, decide}
 use Rattle.model.specs.Server.{Sends, answer, lent, handle, served, lentAfter}
 use Rattle.model.specs.Shelf.{exists}
 use Rattle.model.specs.Sources.{supported}
@@ -77,7 +77,7 @@ abbrev checksFor : Shelf → ℕ → List ℕ → ℕ → List (ℕ × Bool)
 checksFor s g frame f =
     (0x01, known f)
     ∷ (0x03, lengthRight frame)
-    ∷ (0x04, onlyFor (0x91 ∷ 0x93 ∷ []) f (countRight s (word frame 4)))
+    ∷ (0x04, onlyFor (0x91 ∷ 0x93 ∷ []) f (countRight (s .changes) (word frame 4)))
     ∷ (0x10, onlyFor (0x11 ∷ 0x14 ∷ 0x91 ∷ 0x93 ∷ []) f (exists s (byte frame 9)))
     ∷ (0x16, onlyFor (0x11 ∷ 0x14 ∷ []) f (reaches s g (byte frame 9)))
     ∷ (0x20, onlyFor (0x91 ∷ 0x93 ∷ []) f (reaches s g (byte frame 9)))
@@ -93,7 +93,7 @@ checks s g frame = checksFor s g frame (functionOf frame)
 -- by the seven functions; an unknown one fails the first check
 pub verdict-checks : (s : Shelf) (g : ℕ) (frame : List ℕ)
     → resultCode (verdict s g frame) ≡ firstFailure (checks s g frame)
-unfolding verdict decide known
+unfolding verdict decide resultOf known
 verdict-checks s g frame = go (known (functionOf frame)) refl
   where
     -- of a frame that has the function f, and asks this
@@ -139,7 +139,7 @@ checks-tell : (s : Shelf) (g : ℕ) (frame : List ℕ) → Tell (checks s g fram
 checks-tell s g frame =
     tell (fails-iff (known (functionOf frame)) (known-iff (functionOf frame)))
     (tell (fails-iff (lengthRight frame) (length-right frame))
-    (tell (only-for-iff (0x91 ∷ 0x93 ∷ []) frame (countRight s (word frame 4)) (count-right s (word frame 4)))
+    (tell (only-for-iff (0x91 ∷ 0x93 ∷ []) frame (countRight (s .changes) (word frame 4)) (count-right (s .changes) (word frame 4)))
     (tell (only-for-iff (0x11 ∷ 0x14 ∷ 0x91 ∷ 0x93 ∷ []) frame (exists s (byte frame 9)) Iff·rfl)
     (tell (only-for-iff (0x11 ∷ 0x14 ∷ []) frame (reaches s g (byte frame 9)) Iff·rfl)
     (tell (only-for-iff (0x91 ∷ 0x93 ∷ []) frame (reaches s g (byte frame 9)) Iff·rfl)

@@ -52,7 +52,7 @@ strangerCode function lengthPasses countPasses there =
 -- the four that a frame gives on a shelf
 abbrev pub codeFor : Shelf → List ℕ → ℕ
 codeFor s frame =
-    strangerCode (functionOf frame) (lengthRight frame) (countRight s (word frame 4)) (exists s (byte frame 9))
+    strangerCode (functionOf frame) (lengthRight frame) (countRight (s .changes) (word frame 4)) (exists s (byte frame 9))
 
 stranger-verdict : (s : Shelf) (g : ℕ) (frame : List ℕ) → Strange s g frame
     → resultCode (verdict s g frame) ≡ codeFor s frame
@@ -78,7 +78,7 @@ pub stranger-answered : (s : Shelf) (g : ℕ) (frame out : List ℕ) → NotRefu
 stranger-answered s g frame out answered strange =
     failed-result s g frame out (codeFor s frame) answered
     (result-byte s g frame out answered ∙ stranger-verdict s g frame strange)
-    (code-some (functionOf frame) (lengthRight frame) (countRight s (word frame 4)) (exists s (byte frame 9)))
+    (code-some (functionOf frame) (lengthRight frame) (countRight (s .changes) (word frame 4)) (exists s (byte frame 9)))
 
 -- refused or answered, it leaves the shelf as it was
 pub stranger-stays : (s : Shelf) (g : ℕ) (frame out : List ℕ) → Strange s g frame → served s g frame out .shelf ≡ s
@@ -91,7 +91,7 @@ stranger-stays s g frame out strange =
 pub strangers-learn-nothing : (s t : Shelf) (g h : ℕ) (frame frame′ out : List ℕ)
     → NotRefused s g frame out → NotRefused t h frame′ out → Strange s g frame → Strange t h frame′
     → functionOf frame ≡ functionOf frame′ → lengthRight frame ≡ lengthRight frame′
-    → (Of (0x91 ∷ 0x93 ∷ []) frame → countRight s (word frame 4) ≡ countRight t (word frame′ 4))
+    → (Of (0x91 ∷ 0x93 ∷ []) frame → countRight (s .changes) (word frame 4) ≡ countRight (t .changes) (word frame′ 4))
     → exists s (byte frame 9) ≡ exists t (byte frame′ 9)
     → (served s g frame out .answer ≡ served t h frame′ out .answer) × (lentAfter s g frame out ≡ lentAfter t h frame′ out)
 strangers-learn-nothing s t g h frame frame′ out answered answered′ strange strange′ function lengths counts there =

@@ -53,7 +53,7 @@ ConfigurePasses s g frame =
 write-iff : (s : Shelf) (g : ℕ) (frame : List ℕ) (size : ℕ) (lengths : List ℕ) {Checked Contents : Type 0}
     → T (lengthRight frame) ↔ ((length frame ≡ size) × List·Memᴰ (byte frame 3) lengths) → Checked ↔ Contents
     → (T (lengthRight frame)
-    × T (countRight s (word frame 4))
+    × T (countRight (s .changes) (word frame 4))
     × T (exists s (byte frame 9))
     × T (reaches s g (byte frame 9))
     × Checked)
@@ -63,14 +63,14 @@ write-iff s g frame size lengths right contents = (
       record {
         true-length = right .0 l .0;
         byte-3 = right .0 l .1;
-        count = count-right s (word frame 4) .0 c;
+        count = count-right (s .changes) (word frame 4) .0 c;
         phy = there;
         zone = reached;
         contents = contents .0 checked;
       },
   λ w. (
     right .1 (w .true-length, w .byte-3),
-    count-right s (word frame 4) .1 (w .count),
+    count-right (s .changes) (word frame 4) .1 (w .count),
     w .phy,
     w .zone,
     contents .1 (w .contents),

@@ -17,7 +17,7 @@ use Rattle.model.specs.declared.Taken.{Taken}
 use Rattle.model.specs.declared.Taken.the-variants.{Done, NotDone}
 use Rattle.model.specs.House.{houseNumber, takenNumber}
 use Rattle.model.specs.Reach.{reaches}
-use Rattle.model.specs.Results.{accepted, decide}
+use Rattle.model.specs.Results.{accepted, resultOf, decide}
 use Rattle.model.specs.Shelf.{exists, outcome}
 use Rattle.model.proofs.Laws.Tests.{not-not-iff, not-false, check-same, check-map}
 
@@ -76,28 +76,28 @@ module _ (s : Shelf) (g : ℕ) (frame : List ℕ) where
   Passed request p = accepted (decide s g frame request) ≡ true → (exists s p ≡ true) × (reaches s g p ≡ true)
 
   pub passed-11 : (p : ℕ) → Passed (ReportPhyErrorLog p) p
-  unfolding decide
+  unfolding decide resultOf
   passed-11 p =
       both-passed (decide s g frame (ReportPhyErrorLog p)) (exists s p) (reaches s g p)
       (λ out. simp (check-map accepted, out))
       (λ out. simp (check-map accepted, out, check-same))
 
   pub passed-14 : (p : ℕ) → Passed (ReportPhyEvent p) p
-  unfolding decide
+  unfolding decide resultOf
   passed-14 p =
       both-passed (decide s g frame (ReportPhyEvent p)) (exists s p) (reaches s g p)
       (λ out. simp (check-map accepted, out))
       (λ out. simp (check-map accepted, out, check-same))
 
   pub passed-91 : (expected p operation : ℕ) → Passed (PhyControl expected p operation) p
-  unfolding decide
+  unfolding decide resultOf
   passed-91 expected p operation =
       both-passed (decide s g frame (PhyControl expected p operation)) (exists s p) (reaches s g p)
       (λ out. simp (check-map accepted, out, check-same))
       (λ out. simp (check-map accepted, out, check-same))
 
   pub passed-93 : (expected p d : ℕ) (clear : Bool) → Passed (ConfigurePhyEvent expected clear p d) p
-  unfolding decide
+  unfolding decide resultOf
   passed-93 expected p d clear =
       both-passed (decide s g frame (ConfigurePhyEvent expected clear p d)) (exists s p) (reaches s g p)
       (λ out. simp (check-map accepted, out, check-same))

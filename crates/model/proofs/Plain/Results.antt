@@ -3,16 +3,15 @@ use Prim.Native.Nat.{ℕ}
 use mathlib.Core.Logic.{_↔_}
 use mathlib.Core.List.{[], _∷_, List·Memᴰ}
 use lib.Dec.{T}
-use Rattle.model.specs.declared.Shelf.{Shelf}
 use Rattle.model.specs.Results.{countRight, knownOperation}
 use Rattle.model.proofs.Laws.Tests.{oneOf-iff}
 
 -- not 04h: the expected count is 0000h or the present count
-pub count-right : (s : Shelf) (expected : ℕ)
-    → T (countRight s expected)
-    ↔ List·Memᴰ expected (0x0000 ∷ s .changes ∷ [])
+pub count-right : (changes expected : ℕ)
+    → T (countRight changes expected)
+    ↔ List·Memᴰ expected (0x0000 ∷ changes ∷ [])
 unfolding countRight
-count-right s expected = oneOf-iff (0x0000 ∷ s .changes ∷ []) expected
+count-right changes expected = oneOf-iff (0x0000 ∷ changes ∷ []) expected
 
 -- not 13h: one of the four operations
 pub known-operation : (operation : ℕ)
