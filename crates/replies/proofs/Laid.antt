@@ -1,0 +1,37 @@
+-- Bytes that are copied over a frame, from a place on to its end, are what `sets` says. Assumes nothing.
+use Prim.Native.Nat.{ℕ, _+_, _-_, _≤_}
+use native.Mathlib.Omega.{arith}
+use mathlib.Core.Path.{_≡_}
+use mathlib.Core.List.{List, [], _++_, append-assoc, append-nil}
+use lib.ListN.{length, take, drop, length-drop, drop-of-length-le}
+use lib.Seq.{sets, sets-eq, take-all, take-length, drop-drop}
+use borrow.Rule.Slice.PartMut.{midOf, postOf, putMid}
+
+module _ (frame bytes : List ℕ) (at : ℕ) (fits : at + length bytes ≤ length frame) where
+  -- what the part from the place on holds after the copy
+  abbrev copied : List ℕ
+  copied = take (length bytes) bytes ++ drop (length bytes) (midOf at (length frame - at) frame)
+
+  -- that part is all that lies behind the place
+  part-all : midOf at (length frame - at) frame ≡ drop at frame
+  part-all = take-all (length frame - at) (drop at frame) (omega (arith, length-drop at frame))
+
+  rest-none : postOf at (length frame - at) frame ≡ []
+  rest-none = drop-of-length-le (drop at frame) {i = length frame - at} (omega (arith, length-drop at frame))
+
+  pub laid-over : putMid at (length frame - at) frame copied ≡ sets frame at bytes
+  laid-over =
+      rw (
+        part-all,
+        rest-none,
+        take-length bytes,
+        drop-drop (length bytes) at frame,
+        append-nil (bytes ++ drop (at + length bytes) frame),
+        sets-eq bytes frame at fits,
+        append-assoc (take at frame) bytes (drop (at + length bytes) frame),
+      )
+
+-- one more group of bytes over a frame, where the bytes and the frame are known as something else
+pub then : {before after known bytes these : List ℕ} (at : ℕ)
+    → after ≡ sets before at bytes → bytes ≡ these → before ≡ known → after ≡ sets known at these
+then at e b k = rw (e, b, k)

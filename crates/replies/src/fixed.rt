@@ -1,0 +1,95 @@
+// The responses of a fixed size, and the descriptors of the lists.
+use crate::lay::head;
+use crate::lay::lay;
+use crate::wire::four;
+use crate::wire::two;
+use model::Monitor;
+use model::Phy;
+ghost use mathlib.Core.Path.{_≡_};
+ghost use Rattle.model.specs.Reply.{failed, reportGeneral, reportManufacturer, reportPhyErrorLog};
+ghost use Rattle.model.specs.Reply.{eventDescriptor, reportPhyEvent, broadcastDescriptor};
+
+// "A failed response is 41h, the function, the result, 00h." With result 00h it is a write's response.
+pub fn failed(function: u8, result: u8) -> [u8; 4]
+    ensures { λ r. ⌜ r ≡ failed function result ⌝ }
+{
+    [0x41, function, result, 0x00]
+}
+
+// 00h: "Response 36 bytes, length 08h: 9 number of phys, 12 to 19 identifier."
+pub fn report_general(changes: u16, number: u8, identifier: [u8; 8]) -> [u8; 36]
+    ensures { λ r. ⌜ r ≡ reportGeneral changes number identifier ⌝ }
+{
+    let mut frame = [0u8; 36];
+    head(&mut frame, 0x00, 0x08, changes);
+    lay(&mut frame, 9, &[number]);
+    lay(&mut frame, 12, &identifier);
+    frame
+}
+
+// 01h: "Response 60 bytes, length 0Eh: 12 to 19 the fixed text `RAILYARD`, 20 to 35 `PORTAL SHELF` and
+// four spaces, 36 to 39 `0001`."
+pub fn report_manufacturer(changes: u16) -> [u8; 60]
+    ensures { λ r. ⌜ r ≡ reportManufacturer changes ⌝ }
+{
+    let mut frame = [0u8; 60];
+    head(&mut frame, 0x01, 0x0E, changes);
+    lay(&mut frame, 12, b"RAILYARD");
+    lay(&mut frame, 20, b"PORTAL SHELF    ");
+    lay(&mut frame, 36, b"0001");
+    frame
+}
+
+// 11h: "Response 28 bytes, length 06h: 9 phy, then invalid dwords at 12, disparity errors at 16, lost
+// synchronization at 20, reset problems at 24."
+pub fn report_phy_error_log(changes: u16, phy: u8, numbers: Phy) -> [u8; 28]
+    ensures { λ r. ⌜ r ≡ reportPhyErrorLog changes phy numbers ⌝ }
+{
+    let errors = numbers.errors;
+    let mut frame = [0u8; 28];
+    head(&mut frame, 0x11, 0x06, changes);
+    lay(&mut frame, 9, &[phy]);
+    lay(&mut frame, 12, &four(errors[0]));
+    lay(&mut frame, 16, &four(errors[1]));
+    lay(&mut frame, 20, &four(errors[2]));
+    lay(&mut frame, 24, &four(errors[3]));
+    frame
+}
+
+// A descriptor of 14h: "12 bytes: 3 source, 4 to 7 value, 8 to 11 threshold."
+pub fn event_descriptor(monitor: Monitor) -> [u8; 12]
+    ensures { λ r. ⌜ r ≡ eventDescriptor monitor ⌝ }
+{
+    let mut descriptor = [0u8; 12];
+    lay(&mut descriptor, 3, &[monitor.source]);
+    lay(&mut descriptor, 4, &four(monitor.value));
+    lay(&mut descriptor, 8, &four(monitor.threshold));
+    descriptor
+}
+
+// 14h: "Response 64 bytes, length 0Fh: 9 phy, 15 the number 4, then from 16 four descriptors of 12 bytes"
+pub fn report_phy_event(changes: u16, phy: u8, numbers: Phy) -> [u8; 64]
+    ensures { λ r. ⌜ r ≡ reportPhyEvent changes phy numbers ⌝ }
+{
+    let monitors = numbers.monitors;
+    let mut frame = [0u8; 64];
+    head(&mut frame, 0x14, 0x0F, changes);
+    lay(&mut frame, 9, &[phy]);
+    lay(&mut frame, 15, &[4]);
+    lay(&mut frame, 16, &event_descriptor(monitors[0]));
+    lay(&mut frame, 28, &event_descriptor(monitors[1]));
+    lay(&mut frame, 40, &event_descriptor(monitors[2]));
+    lay(&mut frame, 52, &event_descriptor(monitors[3]));
+    frame
+}
+
+// A descriptor of 06h: "0 phy, 2 reason, 4 and 5 count."
+pub fn broadcast_descriptor(phy: u8, reason: u8, count: u16) -> [u8; 8]
+    ensures { λ r. ⌜ r ≡ broadcastDescriptor (record { phy = phy; reason = reason; count = count }) ⌝ }
+{
+    let mut descriptor = [0u8; 8];
+    lay(&mut descriptor, 0, &[phy]);
+    lay(&mut descriptor, 2, &[reason]);
+    lay(&mut descriptor, 4, &two(count));
+    descriptor
+}

@@ -1,0 +1,7 @@
+// The responses to requests, byte by byte, each made and handed back by value.
+//
+// Each public function is proved equal to a definition of the model (crates/model/specs/Reply and
+// Bytes), and bears its name. None asks anything of its caller.
+pub mod fixed;
+mod lay;
+pub mod wire;
