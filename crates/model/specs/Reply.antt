@@ -86,10 +86,10 @@ abbrev pub listed : ℕ → ℕ → ℕ → List Broadcast
 listed p r n = cond (eqb n 0) [] (record { phy = p; reason = r; count = n } ∷ [])
 
 -- "two broadcast counts under FFh: Expander 3h (reduced functionality) and SES 0h"; SES is type 3h, Expander type 4h
-unfoldable pub deviceListed : ℕ → Shelf → List Broadcast
-deviceListed kind s =
-    cond (eqb kind 0x3) (listed 0xFF 0x0 (s .ses0))
-    (cond (eqb kind 0x4) (listed 0xFF 0x3 (s .expander3))
+unfoldable pub deviceListed : ℕ → ℕ → ℕ → List Broadcast
+deviceListed kind expander3 ses0 =
+    cond (eqb kind 0x3) (listed 0xFF 0x0 ses0)
+    (cond (eqb kind 0x4) (listed 0xFF 0x3 expander3)
     [])
 
 -- "three broadcast counts: Change reason 0h, Expander 1h and 2h"; Change is type 0h
@@ -103,7 +103,7 @@ phyListed kind p x =
 -- A source sees FFh and the phys it reaches. Types other than 0h, 3h and 4h list nothing."
 unfoldable pub broadcasts : Shelf → ℕ → ℕ → List Broadcast
 broadcasts s g kind =
-    deviceListed kind s
+    deviceListed kind (s .expander3) (s .ses0)
     ++ joinBelow (phyNumber s) (λ p. cond (reaches s g p) (phyListed kind p (phyAt s p)) [])
 
 -- "n descriptors of 8 bytes .. Descriptor: 0 phy, 2 reason, 4 and 5 count." (A T10 paper shows it as 16 bytes too; 8 holds.)
@@ -115,9 +115,11 @@ broadcastBytes [] = []
 broadcastBytes (b ∷ bs) = broadcastDescriptor b ++ broadcastBytes bs
 
 -- 06h: "Response: 6 type, 7 number n, then n descriptors of 8 bytes, length 1 + 2n."
+abbrev pub broadcastHead : ℕ → ℕ → ℕ → List ℕ
+broadcastHead changes kind n = response 0x06 8 (1 + 2 * n) (changeCount changes ∷ (6, one kind) ∷ (7, one n) ∷ [])
+
 abbrev pub broadcastFrame : ℕ → ℕ → List Broadcast → List ℕ
-broadcastFrame changes kind bs =
-    response 0x06 8 (1 + 2 * length bs) (changeCount changes ∷ (6, one kind) ∷ (7, one (length bs)) ∷ []) ++ broadcastBytes bs
+broadcastFrame changes kind bs = broadcastHead changes kind (length bs) ++ broadcastBytes bs
 
 unfoldable pub reportBroadcast : Shelf → ℕ → ℕ → List ℕ
 reportBroadcast s g kind = broadcastFrame (s .changes) kind (broadcasts s g kind)

@@ -55,10 +55,14 @@ handle s g frame room =
     (given (ltb room 1028) (refuse s ShortBuffer)
     (handleJudged s g frame (judge frame)))
 
--- What the lent buffer holds afterwards: "state and buffer stay", or "The buffer past any response is unchanged."
+-- A response at the front of the lent buffer: "The buffer past any response is unchanged."
+abbrev pub over : List ℕ → List ℕ → List ℕ
+over out bytes = bytes ++ drop (length bytes) out
+
+-- What the lent buffer holds afterwards: "state and buffer stay", or the response, and the old rest behind it.
 abbrev pub lent : List ℕ → Reply → List ℕ
 lent out (Refuses house) = out
-lent out (Sends bytes) = bytes ++ drop (length bytes) out
+lent out (Sends bytes) = over out bytes
 
 -- What the caller is told: the house refusal, or the length of the response.
 abbrev pub answer : Reply → Answer

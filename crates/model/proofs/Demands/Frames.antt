@@ -57,19 +57,19 @@ requestFunction (ConfigurePhyEvent expected clear p d) = 0x93
 
 -- ---- how much 06h lists
 
-abbrev AtMost : ℕ → List Broadcast → Type 0
+abbrev pub AtMost : ℕ → List Broadcast → Type 0
 AtMost n bs = length bs ≤ n
 
-listed-few : (p r n : ℕ) → AtMost 1 (listed p r n)
+pub listed-few : (p r n : ℕ) → AtMost 1 (listed p r n)
 listed-few p r n = cond-both (AtMost 1) (eqb n 0) _ _ zero-le (le-refl 1)
 
-device-few : (kind : ℕ) (s : Shelf) → AtMost 1 (deviceListed kind s)
+pub device-few : (kind expander3 ses0 : ℕ) → AtMost 1 (deviceListed kind expander3 ses0)
 unfolding deviceListed
-device-few kind s =
-    cond-both (AtMost 1) (eqb kind 0x3) _ _ (listed-few 0xFF 0x0 (s .ses0))
-    (cond-both (AtMost 1) (eqb kind 0x4) _ _ (listed-few 0xFF 0x3 (s .expander3)) zero-le)
+device-few kind expander3 ses0 =
+    cond-both (AtMost 1) (eqb kind 0x3) _ _ (listed-few 0xFF 0x0 ses0)
+    (cond-both (AtMost 1) (eqb kind 0x4) _ _ (listed-few 0xFF 0x3 expander3) zero-le)
 
-phy-few : (kind p : ℕ) (x : Phy) → AtMost 2 (phyListed kind p x)
+pub phy-few : (kind p : ℕ) (x : Phy) → AtMost 2 (phyListed kind p x)
 unfolding phyListed
 phy-few kind p x =
     cond-both (AtMost 2) (eqb kind 0x0) _ _ (omega (arith, listed-few p 0x0 (x .change0)))
@@ -84,7 +84,7 @@ broadcasts-few s g kind =
     let of : ℕ → List Broadcast = λ p. cond (reaches s g p) (phyListed kind p (phyAt s p)) [] in
     let few : (p : ℕ) → AtMost 2 (of p) =
     λ p. cond-both (AtMost 2) (reaches s g p) _ _ (phy-few kind p (phyAt s p)) zero-le in
-    simp length-append (omega (arith, device-few kind s, join-few (phyNumber s) 2 of few))
+    simp length-append (omega (arith, device-few kind (s .expander3) (s .ses0), join-few (phyNumber s) 2 of few))
 
 -- ---- the head and the length
 

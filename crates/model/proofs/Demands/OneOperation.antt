@@ -66,7 +66,7 @@ module _ (g : ℕ) (s : Shelf) where
 
   looks-broadcasts : (kind : ℕ) → broadcasts (looks g s) g kind ≡ broadcasts s g kind
   unfolding broadcasts deviceListed
-  looks-broadcasts kind = ap (λ of. deviceListed kind s ++ joinBelow (phyNumber s) of) (fun-ext each)
+  looks-broadcasts kind = ap (λ of. deviceListed kind (s .expander3) (s .ses0) ++ joinBelow (phyNumber s) of) (fun-ext each)
     where
       each : (p : ℕ) → cond (reaches (looks g s) g p) (phyListed kind p (phyAt (looks g s) p)) []
           ≡ cond (reaches s g p) (phyListed kind p (phyAt s p)) []

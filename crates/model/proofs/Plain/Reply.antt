@@ -80,7 +80,7 @@ chosen kind k xs ys {a} m = go (eqb kind k) refl m
 abbrev Due : Shelf → ℕ → ℕ → ℕ → ℕ → Type 0
 Due s kind p r n = Kept s kind p r n × (n ≡ 0 → ⊥)
 
-device-has : (s : Shelf) (kind p r n : ℕ) → List·Memᴰ (entry p r n) (deviceListed kind s)
+device-has : (s : Shelf) (kind p r n : ℕ) → List·Memᴰ (entry p r n) (deviceListed kind (s .expander3) (s .ses0))
     → (p ≡ 0xFF) × Due s kind p r n
 unfolding deviceListed
 device-has s kind p r n m =
@@ -144,7 +144,7 @@ broadcasts-has s g kind p r n m =
       inr (subst⁻¹ (λ (k : ℕ). T (exists s k) × T (reaches s g k)) same (there, reached)),
       due .1,
     ))
-    (List·Memᴰ·append-cases (deviceListed kind s) m)
+    (List·Memᴰ·append-cases (deviceListed kind (s .expander3) (s .ses0)) m)
 
 -- ---- what is kept, seen and not 0 is listed
 
@@ -155,7 +155,7 @@ module _ (s : Shelf) (g : ℕ) where
   unfolding broadcasts
   has-phy kind p r n there (inl ff) m = absurd (omega (arith, ltb-iff p (phyNumber s) .0 there))
   has-phy kind p r n there (inr (here, reached)) m =
-      Memᴰ·append-right (deviceListed kind s)
+      Memᴰ·append-right (deviceListed kind (s .expander3) (s .ses0))
       (has-join (phyNumber s) (ofPhy s g kind) p (ltb-iff p (phyNumber s) .0 there) (onlyIf-iff (reaches s g p) (phyListed kind p (phyAt s p)) .1 (reached, m)))
 
   -- a count at its own type, phy and reason
@@ -213,7 +213,7 @@ place-phy b h = rw (ne-eqb (b .phy) 0xFF (λ e. omega arith))
 rising-listed : (p r n : ℕ) → Rising place (listed p r n)
 rising-listed p r n = rising-cond place (eqb n 0) [] (entry p r n ∷ []) tt (rising-one place (entry p r n))
 
-rising-device : (s : Shelf) (kind : ℕ) → Rising place (deviceListed kind s)
+rising-device : (s : Shelf) (kind : ℕ) → Rising place (deviceListed kind (s .expander3) (s .ses0))
 unfolding deviceListed
 rising-device s kind =
     rising-cond place (eqb kind 0x3) _ _ (rising-listed 0xFF 0x0 (s .ses0))
@@ -255,7 +255,7 @@ phy-places s g kind p b h m =
 pub listed-rising : (s : Shelf) (g kind : ℕ) → Rising place (broadcasts s g kind)
 unfolding broadcasts
 listed-rising s g kind =
-    rising-append place (deviceListed kind s) (joinBelow (phyNumber s) (ofPhy s g kind)) (rising-device s kind)
+    rising-append place (deviceListed kind (s .expander3) (s .ses0)) (joinBelow (phyNumber s) (ofPhy s g kind)) (rising-device s kind)
     (join-rising place (ofPhy s g kind) (λ p. 4 * suc p) (λ p. omega arith) (phyNumber s)
     (λ p b h m. phy-places s g kind p b h m)
     (λ p. rising-cond place (reaches s g p) (phyListed kind p (phyAt s p)) [] (rising-phy kind p (phyAt s p)) tt))

@@ -1,0 +1,2 @@
+-- Facts that the functions' proofs use.
+pub mod Listing
