@@ -61,6 +61,14 @@ checkWrite count there reached contents =
     (checkPhy there reached SmpZoneViolation
     contents)
 
+-- "13h UNKNOWN PHY OPERATION (91h, any operation not named below)"
+abbrev pub checkOperation : ℕ → FunctionResult
+checkOperation operation = check (knownOperation operation) UnknownPhyOperation Accepted
+
+-- "02h SMP FUNCTION FAILED for a broadcast type above 0Fh (06h)"
+abbrev pub checkKind : ℕ → FunctionResult
+checkKind kind = check (leb kind 0x0F) SmpFunctionFailed Accepted
+
 -- "02h SMP FUNCTION FAILED for .. more than four descriptors (93h); then 17h UNKNOWN PHY EVENT SOURCE (93h)"
 abbrev pub checkDescriptors : List ℕ → ℕ → FunctionResult
 checkDescriptors frame d =
@@ -73,11 +81,11 @@ checkDescriptors frame d =
 unfoldable pub resultOf : ℕ → Bool → Bool → List ℕ → Request → FunctionResult
 resultOf changes there reached frame ReportGeneral = Accepted
 resultOf changes there reached frame ReportManufacturer = Accepted
-resultOf changes there reached frame (ReportBroadcast kind) = check (leb kind 0x0F) SmpFunctionFailed Accepted
+resultOf changes there reached frame (ReportBroadcast kind) = checkKind kind
 resultOf changes there reached frame (ReportPhyErrorLog p) = checkRead there reached
 resultOf changes there reached frame (ReportPhyEvent p) = checkRead there reached
 resultOf changes there reached frame (PhyControl expected p operation) =
-    checkWrite (countRight changes expected) there reached (check (knownOperation operation) UnknownPhyOperation Accepted)
+    checkWrite (countRight changes expected) there reached (checkOperation operation)
 resultOf changes there reached frame (ConfigurePhyEvent expected clear p d) =
     checkWrite (countRight changes expected) there reached (checkDescriptors frame d)
 

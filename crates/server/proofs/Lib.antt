@@ -1,2 +1,3 @@
 -- Facts that the functions' proofs use.
 pub mod Listing
+pub mod Sending

@@ -12,9 +12,9 @@ ghost use mathlib.Core.List.{[]};
 ghost use Prim.Native.Nat.{_+_, _*_, _≤_};
 ghost use lib.ListN.{length};
 ghost use Rattle.model.specs.Reply.{listed, deviceListed, phyListed, broadcasts, broadcastHead, reportBroadcast};
-ghost use Rattle.model.specs.Server.{over};
 ghost use Rattle.model.specs.Zone.{rowReaches};
 ghost use Rattle.server.specs.Listed.{Lists};
+ghost use Rattle.server.specs.Sent.{Sent};
 
 // One count of the list, as descriptor n, unless it is 0: "Every non-zero count". Gives how many
 // descriptors there are now.
@@ -98,8 +98,7 @@ fn broadcast_head(changes: u16, kind: u8, n: u8) -> [u8; 8]
 // The response to 06h, in the lent buffer. Gives its length.
 pub(crate) fn report_broadcast(shelf: Shelf, source: u32, kind: u8, out: &mut [u8]) -> usize
     requires { ⌜ 1028 ≤ length (now out) ⌝ }
-    ensures size { λ r. ⌜ r ≡ length (reportBroadcast shelf source kind) ⌝ }
-    ensures written { λ _. ⌜ now (out .exit) ≡ over (now (out .entry)) (reportBroadcast shelf source kind) ⌝ }
+    ensures { λ r. ⌜ Sent (now (out .entry)) (reportBroadcast shelf source kind) r (now (out .exit)) ⌝ }
 {
     let n = list_all(shelf, source, kind, out);
     bytes::copy(&broadcast_head(shelf.changes, kind, n), out);

@@ -1,2 +1,3 @@
 // The server.
 mod broadcast;
+mod respond;

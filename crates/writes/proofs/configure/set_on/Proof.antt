@@ -1,0 +1,13 @@
+-- `writes::configure::set_on` meets its contract: the monitors are those that are set, and the rest stays. Assumes nothing.
+use borrow.Author.Needs.{needs}
+use Rattle.writes.proofs.configure.set_on.Statement.{statement}
+use Rattle.writes.proofs.configure.set_on.Tie as tie
+
+set-monitors-requires : tie.Need-set-monitors-requires
+set-monitors-requires c κs = search needs
+
+returns : tie.Need-returns
+returns c = rw (c .set-monitors .ensures)
+
+pub set-on-spec : {M : Type 1} → statement M
+set-on-spec = tie.close (tie.spec set-monitors-requires returns)

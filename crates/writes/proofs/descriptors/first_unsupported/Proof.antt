@@ -1,0 +1,94 @@
+-- `writes::descriptors::first_unsupported` meets its contract. The loop's invariant: the descriptors passed are allowed, so
+-- that the first unsupported one is that of those left. The measure is how many are left. Assumes nothing.
+use borrow.Author.Needs.{needs}
+use Prim.Native.Nat.{ℕ, suc, _+_, _-_, _≤_, _<_}
+use native.Mathlib.Numerals.{add-one}
+use native.Mathlib.Omega.{arith}
+use mathlib.Core.Path.{_≡_, refl, sym, _∙_}
+use mathlib.Core.Bool.{Bool, true, false, not, cond}
+use mathlib.Core.List.{List}
+use Rattle.model.specs.Request.{descriptorSource, allowed, firstUnsupported}
+use Rattle.writes.proofs.descriptors.first_unsupported.Statement.{statement}
+use Rattle.writes.proofs.descriptors.first_unsupported.Tie as tie
+
+-- before the first descriptor all are left
+all-left : (frame : List ℕ) (d : ℕ) → firstUnsupported frame (d - 0) 0 ≡ firstUnsupported frame d 0
+all-left frame d =
+    let all : d - 0 ≡ d = omega arith in
+    rw all
+
+-- past the last there is none
+none-left : (frame : List ℕ) (d i : ℕ) → i ≡ d → d ≡ firstUnsupported frame (d - i) i
+unfolding firstUnsupported
+none-left frame d i past =
+    let none : d - i ≡ 0 = omega arith in
+    rw (none, past)
+
+-- a choice, and the same by the test that is not it
+by-denial : (b : Bool) (x y : ℕ) → cond b x y ≡ cond (not b) y x
+by-denial true x y = refl
+by-denial false x y = refl
+
+-- the next descriptor is judged, and the rest only where it is allowed
+next-judged : (frame : List ℕ) (d i : ℕ) {source : ℕ} {ok : Bool}
+    → i < d → source ≡ descriptorSource frame i → ok ≡ allowed source
+    → firstUnsupported frame (d - i) i ≡ cond (not ok) i (firstUnsupported frame (d - (i + 1)) (i + 1))
+unfolding firstUnsupported
+next-judged frame d i below is-source is-allowed =
+    let one-more : d - i ≡ suc (d - (i + 1)) = omega arith in
+    rw (one-more, is-allowed, is-source, add-one) (by-denial (allowed (descriptorSource frame i)) _ _)
+
+abbrev Inv-loop : tie.InvT-loop
+Inv-loop frame d i₀ i = (i ≤ d) × (firstUnsupported frame (d - i) i ≡ firstUnsupported frame d 0)
+
+abbrev μ-loop : tie.MeasureT-loop
+μ-loop frame d i₀ i = d - i
+
+loop-holds : tie.Need-loop-holds Inv-loop μ-loop
+loop-holds c = (omega arith, all-left _ _)
+
+descriptor-source-requires : tie.Need-descriptor-source-requires Inv-loop μ-loop
+descriptor-source-requires c κs = search needs
+
+allowed-requires : tie.Need-allowed-requires Inv-loop μ-loop
+allowed-requires c κs = search needs
+
+add-i : tie.Need-add-i Inv-loop μ-loop
+add-i c = search needs
+
+loop-less : tie.Need-loop-less Inv-loop μ-loop
+loop-less c = search needs
+
+-- what is left before a turn, by whether the descriptor of that turn is allowed
+judged : (c : tie.After-allowed Inv-loop μ-loop)
+    → let a = c .before .before .before .before .before .args in
+    let i = c .before .before .before .loop .i in
+    firstUnsupported (a .frame .now) (a .d) 0
+    ≡ cond (not (c .allowed .result)) i (firstUnsupported (a .frame .now) (a .d - (i + 1)) (i + 1))
+judged c =
+    sym (c .before .before .before .loop .inv .1)
+    ∙ next-judged _ _ _ (omega arith) (c .before .descriptor-source .ensures) (c .allowed .ensures)
+
+loop-again : tie.Need-loop-again Inv-loop μ-loop
+loop-again c = (omega arith, sym (rw (c .if2 .left) at (judged (c .before))))
+
+returns : tie.Need-returns Inv-loop μ-loop
+returns c = none-left _ _ _ (c .if1 .taken) ∙ c .before .loop .inv .1
+
+returns-2 : tie.Need-returns-2 Inv-loop μ-loop
+returns-2 c = sym (rw (c .if2 .taken) at (judged (c .before)))
+
+pub first-unsupported-spec : {M : Type 1} → statement M
+first-unsupported-spec =
+    tie.close
+    (tie.spec
+    Inv-loop
+    μ-loop
+    loop-holds
+    descriptor-source-requires
+    allowed-requires
+    add-i
+    loop-less
+    loop-again
+    returns
+    returns-2)
