@@ -1,3 +1,5 @@
 -- Facts that the functions' proofs use.
 pub mod Listing
+pub mod Passing
 pub mod Sending
+pub mod Handling

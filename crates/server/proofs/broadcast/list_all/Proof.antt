@@ -1,3 +1,5 @@
+-- `server::broadcast::list_all` meets its contract. The loop's invariant: what the source sees of the phys passed is listed
+-- behind the count under FFh. The measure is how many of the 24 places are left. Assumes nothing.
 use borrow.Author.Needs.{needs}
 use Prim.Native.Nat.{ℕ, _+_, _-_, _≤_}
 use native.Mathlib.Numerals.{add-one}
@@ -18,12 +20,6 @@ use Rattle.server.specs.Listed.{Lists}
 use Rattle.server.proofs.Listing.{lists-none, lists-append, lists-length}
 use Rattle.server.proofs.broadcast.list_all.Statement.{statement}
 use Rattle.server.proofs.broadcast.list_all.Tie as tie
-use Rattle.server.proofs.broadcast.list_all.Reads as reads
-use Rattle.server.proofs.broadcast.list_all.Lts as lts
-use Rattle.server.proofs.broadcast.list_device.Reads as list-device-reads
-use Rattle.server.proofs.broadcast.list_seen.Reads as list-seen-reads
-use Rattle.shelf.proofs.phys.phy_number.Reads as phy-number-reads
-use Rattle.shelf.proofs.table.row.Reads as row-reads
 
 -- what the source sees of phy p
 abbrev seen : Shelf → ℕ → ℕ → ℕ → List Broadcast
@@ -63,9 +59,10 @@ begun : (c : tie.After-list-device Inv-loop μ-loop)
 begun c =
     let a = c .before .before .before .before .before .before .args in
     let shelf = a .t1 in
-    let bs = deviceListed (a .kind) (shelf .expander3) (shelf .ses0) in
-    (omega (arith, c .list-device .ensures .0, device-few (a .kind) (shelf .expander3) (shelf .ses0)),
-    omega (arith, lists-length (a .out .now) 0 bs (c .list-device .ensures)))
+    let bs = deviceListed (a .kind) (shelf .expander3) (shelf .ses0) in (
+      omega (arith, c .list-device .ensures .0, device-few (a .kind) (shelf .expander3) (shelf .ses0)),
+      omega (arith, lists-length (a .out .now) 0 bs (c .list-device .ensures)),
+    )
 
 cast-numbers : tie.Need-cast-numbers Inv-loop μ-loop
 cast-numbers c = search needs
@@ -85,9 +82,10 @@ list-seen-requires c κs =
     let first = turn .before .before .before in
     let a = first .before .before .before .before .before .before .args in
     let few = join-few (turn .loop .p) 2 (seen (a .t1) (a .source) (a .kind)) (seen-few (a .t1) (a .source) (a .kind)) in
-    let sofar = joinBelow (turn .loop .p) (seen (a .t1) (a .source) (a .kind)) in
-    (omega (arith, begun first, lists-length _ _ sofar (turn .loop .inv .1)),
-    omega (arith, begun first, few))
+    let sofar = joinBelow (turn .loop .p) (seen (a .t1) (a .source) (a .kind)) in (
+      omega (arith, begun first, lists-length _ _ sofar (turn .loop .inv .1)),
+      omega (arith, begun first, few),
+    )
 
 add-p : tie.Need-add-p Inv-loop μ-loop
 add-p c = search needs
@@ -101,11 +99,12 @@ loop-again c =
     let first = turn .before .before .before in
     let a = first .before .before .before .before .before .before .args in
     let of = seen (a .t1) (a .source) (a .kind) in
-    let listed = rw (first .before .before .before .row .ensures) at (c .before .before .list-seen .ensures) in
-    (omega arith,
-    rw (join-more (turn .loop .p) of)
-    (lists-append (first .list-device .last .0) (first .list-device .result) (joinBelow (turn .loop .p) of) (of (turn .loop .p))
-    (turn .loop .inv .1) listed))
+    let listed = rw (first .before .before .before .row .ensures) at (c .before .before .list-seen .ensures) in (
+      omega arith,
+      rw (join-more (turn .loop .p) of)
+          (lists-append (first .list-device .last .0) (first .list-device .result) (joinBelow (turn .loop .p) of) (of (turn .loop .p))
+          (turn .loop .inv .1) listed),
+    )
 
 same-length : tie.Need-same-length Inv-loop μ-loop
 same-length c =

@@ -1,44 +1,35 @@
+-- `server::broadcast::list_device` meets its contract: one count of SES or of Expander, or none. Assumes nothing.
+use borrow.Author.Needs.{needs}
 use native.Mathlib.Omega.{arith}
 use borrow.Author.Tests.{ne-eqb}
 use Rattle.model.specs.Reply.{deviceListed}
 use Rattle.server.proofs.Listing.{lists-none}
-use borrow.Author.Needs.{needs}
 use Rattle.server.proofs.broadcast.list_device.Statement.{statement}
 use Rattle.server.proofs.broadcast.list_device.Tie as tie
-use Rattle.server.proofs.broadcast.list_device.Reads as reads
-use Rattle.server.proofs.broadcast.list_device.Lts as lts
-use Rattle.server.proofs.broadcast.list.Reads as list-reads
 
--- src/broadcast.rt:40:16
 list-requires : tie.Need-list-requires
 list-requires c κs = search needs
 
--- src/broadcast.rt:41:16
 list-requires-2 : tie.Need-list-requires-2
 list-requires-2 c κs = search needs
 
--- src/broadcast.rt:35:1
 same-length : tie.Need-same-length
 same-length c = search needs
 
--- src/broadcast.rt:35:1
 returns : tie.Need-returns
 unfolding deviceListed
 returns c = rw (c .before .before .before .before .match .keys1) (c .before .before .list .ensures)
 
--- src/broadcast.rt:35:1
 same-length-2 : tie.Need-same-length-2
 same-length-2 c = search needs
 
--- src/broadcast.rt:35:1
 returns-2 : tie.Need-returns-2
 unfolding deviceListed
 returns-2 c = rw (c .before .before .before .before .match .keys2) (c .before .before .list2 .ensures)
 
--- src/broadcast.rt:35:1
 returns-3 : tie.Need-returns-3
 unfolding deviceListed
-returns-3 c = 
+returns-3 c =
     let a = c .before .before .args in
     rw (ne-eqb (a .kind) 0x3 (omega arith), ne-eqb (a .kind) 0x4 (omega arith)) (lists-none (a .out .now) 0)
 

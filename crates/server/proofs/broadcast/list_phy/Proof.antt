@@ -1,48 +1,39 @@
+-- `server::broadcast::list_phy` meets its contract: one count of Change, or two of Expander, or none. Assumes nothing.
+use borrow.Author.Needs.{needs}
 use native.Mathlib.Omega.{arith}
 use borrow.Author.Tests.{ne-eqb}
 use Rattle.model.specs.Reply.{listed, phyListed}
 use Rattle.model.proofs.Demands.Frames.{listed-few}
 use Rattle.server.proofs.Listing.{lists-none, lists-append, lists-length}
-use borrow.Author.Needs.{needs}
 use Rattle.server.proofs.broadcast.list_phy.Statement.{statement}
 use Rattle.server.proofs.broadcast.list_phy.Tie as tie
-use Rattle.server.proofs.broadcast.list_phy.Reads as reads
-use Rattle.server.proofs.broadcast.list_phy.Lts as lts
-use Rattle.server.proofs.broadcast.list.Reads as list-reads
 
--- src/broadcast.rt:53:16
 list-requires : tie.Need-list-requires
 list-requires c κs = search needs
 
--- src/broadcast.rt:55:17
 list-requires-2 : tie.Need-list-requires-2
 list-requires-2 c κs = search needs
 
--- src/broadcast.rt:56:13
 list-requires-3 : tie.Need-list-requires-3
-list-requires-3 c κs = 
+list-requires-3 c κs =
     let l = c .before .before .before in
     let a = l .before .before .before .before .args in
     let bs = listed (a .phy) 0x1 (a .numbers .expander1) in
     (omega (arith, lists-length (a .out .now) (a .n) bs (l .list2 .ensures)), omega (arith, l .list2 .ensures .0, listed-few (a .phy) 0x1 (a .numbers .expander1)))
 
--- src/broadcast.rt:47:1
 same-length : tie.Need-same-length
 same-length c = search needs
 
--- src/broadcast.rt:47:1
 returns : tie.Need-returns
 unfolding phyListed
 returns c = rw (c .before .before .before .before .match .keys1) (c .before .before .list .ensures)
 
--- src/broadcast.rt:47:1
 same-length-2 : tie.Need-same-length-2
 same-length-2 c = search needs
 
--- src/broadcast.rt:47:1
 returns-2 : tie.Need-returns-2
 unfolding phyListed
-returns-2 c = 
+returns-2 c =
     let second = c .before .before in
     let first = second .before .before .before .before in
     let a = first .before .before .before .before .args in
@@ -50,10 +41,9 @@ returns-2 c =
     (lists-append (a .out .now) (a .n) (listed (a .phy) 0x1 (a .numbers .expander1)) (listed (a .phy) 0x2 (a .numbers .expander2))
     (first .list2 .ensures) (second .list3 .ensures))
 
--- src/broadcast.rt:47:1
 returns-3 : tie.Need-returns-3
 unfolding phyListed
-returns-3 c = 
+returns-3 c =
     let a = c .before .before .args in
     rw (ne-eqb (a .kind) 0x0 (omega arith), ne-eqb (a .kind) 0x4 (omega arith)) (lists-none (a .out .now) (a .n))
 

@@ -1,3 +1,5 @@
+-- `server::broadcast::report_broadcast` meets its contract: the list, and then its head in front of it. Assumes nothing.
+use borrow.Author.Needs.{needs}
 use native.Mathlib.Omega.{arith}
 use mathlib.Core.Path.{_≡_, ap, _∙_}
 use lib.ListN.{length, length-append}
@@ -5,54 +7,39 @@ use Rattle.model.specs.Reply.{broadcasts, broadcastHead, reportBroadcast}
 use Rattle.model.proofs.Demands.Frames.{broadcasts-few}
 use Rattle.model.proofs.Plain.Reply.{broadcast-bytes-length}
 use Rattle.server.proofs.Listing.{headed}
-use borrow.Author.Needs.{needs}
 use Rattle.server.proofs.broadcast.report_broadcast.Statement.{statement}
 use Rattle.server.proofs.broadcast.report_broadcast.Tie as tie
-use Rattle.server.proofs.broadcast.report_broadcast.Reads as reads
-use Rattle.server.proofs.broadcast.report_broadcast.Lts as lts
-use Rattle.bytes.proofs.copy.Reads as copy-reads
-use Rattle.server.proofs.broadcast.broadcast_head.Reads as broadcast-head-reads
-use Rattle.server.proofs.broadcast.list_all.Reads as list-all-reads
 
--- src/broadcast.rt:104:9
 list-all-requires : tie.Need-list-all-requires
 list-all-requires c κs = search needs
 
--- src/broadcast.rt:105:18
 broadcast-head-requires : tie.Need-broadcast-head-requires
-broadcast-head-requires c κs = 
+broadcast-head-requires c κs =
     let walked = c .before .before in
     let a = walked .before .before .before .args in
     omega (arith, walked .list-all .ensures .0, broadcasts-few (a .shelf) (a .source) (a .kind))
 
--- src/broadcast.rt:105:17
 slice-aggregate-copy : tie.Need-slice-aggregate-copy
 slice-aggregate-copy c = search needs
 
--- src/broadcast.rt:105:5
 copy-requires : tie.Need-copy-requires
 copy-requires c κs = search needs
 
--- src/broadcast.rt:106:14
 cast-result : tie.Need-cast-result
 cast-result c = search needs
 
--- src/broadcast.rt:106:9
 mul-result : tie.Need-mul-result
 mul-result c = search needs
 
--- src/broadcast.rt:106:5
 add-result : tie.Need-add-result
 add-result c = search needs
 
--- src/broadcast.rt:99:1
 same-length : tie.Need-same-length
 same-length c = search needs
 
--- src/broadcast.rt:99:1
 returns : tie.Need-returns
 unfolding reportBroadcast
-returns c = 
+returns c =
     let copied = c .before .before in
     let made = copied .before .before .before in
     let walked = made .before .before .before in
@@ -60,14 +47,15 @@ returns c =
     let bs = broadcasts (a .shelf) (a .source) (a .kind) in
     let number : walked .list-all .result ≡ length bs = omega (arith, walked .list-all .ensures .0) in
     let head = made .broadcast-head .ensures ∙ ap (broadcastHead (a .shelf .changes) (a .kind)) number in
-    let few = broadcasts-few (a .shelf) (a .source) (a .kind) in
-    (simp length-append (omega (arith, number, broadcast-bytes-length bs)),
-    rw (
-      copied .copy .ensures .1,
-      walked .list-all .ensures .1,
-      headed (a .out .now) (made .broadcast-head .result) bs (ap length head) (omega (arith, few)),
-      head,
-    ))
+    let few = broadcasts-few (a .shelf) (a .source) (a .kind) in (
+      simp length-append (omega (arith, number, broadcast-bytes-length bs)),
+      rw (
+        copied .copy .ensures .1,
+        walked .list-all .ensures .1,
+        headed (a .out .now) (made .broadcast-head .result) bs (ap length head) (omega (arith, few)),
+        head,
+      ),
+    )
 
 pub report-broadcast-spec : {M : Type 1} → statement M
 report-broadcast-spec =

@@ -1,166 +1,122 @@
+-- `server::respond::respond` meets its contract, request by request: the bytes are copied to the front of the buffer.
+-- Assumes nothing.
+use borrow.Author.Needs.{needs}
 use Prim.Native.Nat.{_<_}
 use mathlib.Core.Path.{_≡_, ap, subst, _∙_}
 use Rattle.model.specs.Reply.{respond, reportGeneral}
 use Rattle.model.specs.Request.{phyOf}
 use Rattle.server.proofs.Sending.{sent}
-use borrow.Author.Needs.{needs}
 use Rattle.server.proofs.respond.respond.Statement.{statement}
 use Rattle.server.proofs.respond.respond.Tie as tie
-use Rattle.server.proofs.respond.respond.Reads as reads
-use Rattle.server.proofs.respond.respond.Lts as lts
-use Rattle.bytes.proofs.copy.Reads as copy-reads
-use Rattle.replies.proofs.fixed.failed.Reads as failed-reads
-use Rattle.replies.proofs.fixed.report_general.Reads as report-general-reads
-use Rattle.replies.proofs.fixed.report_manufacturer.Reads as report-manufacturer-reads
-use Rattle.replies.proofs.fixed.report_phy_error_log.Reads as report-phy-error-log-reads
-use Rattle.replies.proofs.fixed.report_phy_event.Reads as report-phy-event-reads
-use Rattle.server.proofs.broadcast.report_broadcast.Reads as report-broadcast-reads
-use Rattle.shelf.proofs.phys.phy_number.Reads as phy-number-reads
 
--- src/respond.rt:37:37
 enum-told : tie.Need-enum-told
 enum-told c = search needs
 
--- src/respond.rt:37:26
 phy-number-requires : tie.Need-phy-number-requires
 phy-number-requires c κs = search needs
 
--- src/respond.rt:37:26
 cast-number : tie.Need-cast-number
 cast-number c = search needs
 
--- src/respond.rt:38:26
 report-general-requires : tie.Need-report-general-requires
 report-general-requires c κs = search needs
 
--- src/respond.rt:38:25
 slice-aggregate-copy : tie.Need-slice-aggregate-copy
 slice-aggregate-copy c = search needs
 
--- src/respond.rt:38:13
 copy-requires : tie.Need-copy-requires
 copy-requires c κs = search needs
 
--- src/respond.rt:40:53
 enum-told-2 : tie.Need-enum-told-2
 enum-told-2 c = search needs
 
--- src/respond.rt:40:53
 report-manufacturer-requires : tie.Need-report-manufacturer-requires
 report-manufacturer-requires c κs = search needs
 
--- src/respond.rt:40:52
 slice-aggregate-copy-2 : tie.Need-slice-aggregate-copy-2
 slice-aggregate-copy-2 c = search needs
 
--- src/respond.rt:40:40
 copy-requires-2 : tie.Need-copy-requires-2
 copy-requires-2 c κs = search needs
 
--- src/respond.rt:41:36
 enum-known-request : tie.Need-enum-known-request
 enum-known-request c = search needs
 
--- src/respond.rt:41:46
 report-broadcast-requires : tie.Need-report-broadcast-requires
 report-broadcast-requires c κs = search needs
 
--- src/respond.rt:42:38
 enum-known-request-2 : tie.Need-enum-known-request-2
 enum-known-request-2 c = search needs
 
--- src/respond.rt:43:38
 cast-numbers : tie.Need-cast-numbers
 cast-numbers c = search needs
 
--- src/respond.rt:43:27
 mul-numbers : tie.Need-mul-numbers
 mul-numbers c = search needs
 
--- src/respond.rt:43:27
 element-copy-out-numbers : tie.Need-element-copy-out-numbers
 element-copy-out-numbers c = subst (λ r. phyOf r < 24) (c .before .request2 .given .1) (c .before .before .before .before .pre .1)
 
--- src/respond.rt:44:26
 report-phy-error-log-requires : tie.Need-report-phy-error-log-requires
 report-phy-error-log-requires c κs = search needs
 
--- src/respond.rt:44:25
 slice-aggregate-copy-3 : tie.Need-slice-aggregate-copy-3
 slice-aggregate-copy-3 c = search needs
 
--- src/respond.rt:44:13
 copy-requires-3 : tie.Need-copy-requires-3
 copy-requires-3 c κs = search needs
 
--- src/respond.rt:46:35
 enum-known-request-3 : tie.Need-enum-known-request-3
 enum-known-request-3 c = search needs
 
--- src/respond.rt:47:38
 cast-numbers-2 : tie.Need-cast-numbers-2
 cast-numbers-2 c = search needs
 
--- src/respond.rt:47:27
 mul-numbers-2 : tie.Need-mul-numbers-2
 mul-numbers-2 c = search needs
 
--- src/respond.rt:47:27
 element-copy-out-numbers-2 : tie.Need-element-copy-out-numbers-2
 element-copy-out-numbers-2 c = subst (λ r. phyOf r < 24) (c .before .request3 .given .1) (c .before .before .before .before .pre .1)
 
--- src/respond.rt:48:26
 report-phy-event-requires : tie.Need-report-phy-event-requires
 report-phy-event-requires c κs = search needs
 
--- src/respond.rt:48:25
 slice-aggregate-copy-4 : tie.Need-slice-aggregate-copy-4
 slice-aggregate-copy-4 c = search needs
 
--- src/respond.rt:48:13
 copy-requires-4 : tie.Need-copy-requires-4
 copy-requires-4 c κs = search needs
 
--- src/respond.rt:54:27
 enum-told-3 : tie.Need-enum-told-3
 enum-told-3 c = search needs
 
--- src/respond.rt:54:27
 failed-requires : tie.Need-failed-requires
 failed-requires c κs = search needs
 
--- src/respond.rt:54:26
 slice-aggregate-copy-5 : tie.Need-slice-aggregate-copy-5
 slice-aggregate-copy-5 c = search needs
 
--- src/respond.rt:54:14
 copy-requires-5 : tie.Need-copy-requires-5
 copy-requires-5 c κs = search needs
 
--- src/respond.rt:60:27
 enum-told-4 : tie.Need-enum-told-4
 enum-told-4 c = search needs
 
--- src/respond.rt:60:27
 failed-requires-2 : tie.Need-failed-requires-2
 failed-requires-2 c κs = search needs
 
--- src/respond.rt:60:26
 slice-aggregate-copy-6 : tie.Need-slice-aggregate-copy-6
 slice-aggregate-copy-6 c = search needs
 
--- src/respond.rt:60:14
 copy-requires-6 : tie.Need-copy-requires-6
 copy-requires-6 c κs = search needs
 
--- src/respond.rt:29:1
 same-length : tie.Need-same-length
 same-length c = search needs
 
--- src/respond.rt:29:1
 returns : tie.Need-returns
 unfolding respond
-returns c = 
+returns c =
     let copied = c .before .before in
     let made = copied .before .before .before in
     let counted = made .before .before in
@@ -171,14 +127,12 @@ returns c =
     (made .report-general .ensures
     ∙ ap (λ n. reportGeneral (a .t1 .changes) n (a .t1 .identifier)) (counted .phy-number .ensures)))
 
--- src/respond.rt:29:1
 same-length-2 : tie.Need-same-length-2
 same-length-2 c = search needs
 
--- src/respond.rt:29:1
 returns-2 : tie.Need-returns-2
 unfolding respond
-returns-2 c = 
+returns-2 c =
     let copied = c .before .before in
     let made = copied .before .before .before in
     let arm = made .before in
@@ -186,25 +140,21 @@ returns-2 c =
     (sent (arm .before .before .before .args .out .now) (copied .copy2 .ensures .0) (copied .copy2 .ensures .1)
     (made .report-manufacturer .ensures))
 
--- src/respond.rt:29:1
 same-length-3 : tie.Need-same-length-3
 same-length-3 c = search needs
 
--- src/respond.rt:29:1
 returns-3 : tie.Need-returns-3
 unfolding respond
-returns-3 c = 
+returns-3 c =
     let sent = c .before .before in
     rw (sent .before .before .before .request .given .1) (sent .report-broadcast .ensures)
 
--- src/respond.rt:29:1
 same-length-4 : tie.Need-same-length-4
 same-length-4 c = search needs
 
--- src/respond.rt:29:1
 returns-4 : tie.Need-returns-4
 unfolding respond
-returns-4 c = 
+returns-4 c =
     let copied = c .before .before in
     let made = copied .before .before .before in
     let arm = made .before .before .before in
@@ -212,14 +162,12 @@ returns-4 c =
     (sent (arm .before .before .before .args .out .now) (copied .copy3 .ensures .0) (copied .copy3 .ensures .1)
     (made .report-phy-error-log .ensures))
 
--- src/respond.rt:29:1
 same-length-5 : tie.Need-same-length-5
 same-length-5 c = search needs
 
--- src/respond.rt:29:1
 returns-5 : tie.Need-returns-5
 unfolding respond
-returns-5 c = 
+returns-5 c =
     let copied = c .before .before in
     let made = copied .before .before .before in
     let arm = made .before .before .before in
@@ -227,14 +175,12 @@ returns-5 c =
     (sent (arm .before .before .before .args .out .now) (copied .copy4 .ensures .0) (copied .copy4 .ensures .1)
     (made .report-phy-event .ensures))
 
--- src/respond.rt:29:1
 same-length-6 : tie.Need-same-length-6
 same-length-6 c = search needs
 
--- src/respond.rt:29:1
 returns-6 : tie.Need-returns-6
 unfolding respond
-returns-6 c = 
+returns-6 c =
     let copied = c .before .before in
     let made = copied .before .before .before in
     let arm = made .before in
@@ -242,14 +188,12 @@ returns-6 c =
     (sent (arm .before .before .before .args .out .now) (copied .copy5 .ensures .0) (copied .copy5 .ensures .1)
     (made .failed .ensures))
 
--- src/respond.rt:29:1
 same-length-7 : tie.Need-same-length-7
 same-length-7 c = search needs
 
--- src/respond.rt:29:1
 returns-7 : tie.Need-returns-7
 unfolding respond
-returns-7 c = 
+returns-7 c =
     let copied = c .before .before in
     let made = copied .before .before .before in
     let arm = made .before in

@@ -1,0 +1,97 @@
+-- What `served` and `lentAfter` come to, way by way through `serve`. Assumes nothing.
+use Prim.Native.Nat.{ℕ, _≤_, _<_}
+use native.Mathlib.Omega.{arith}
+use mathlib.Core.Path.{_≡_, refl, sym, ap, subst⁻¹, _∙_}
+use mathlib.Core.Bool.{true, false}
+use mathlib.Core.Logic.{⊎-elim}
+use mathlib.Core.List.{List, [], _∷_}
+use borrow.Author.Tests.{lt-ltb, le-ltb}
+use denote.Enum.Declared.{tagOf}
+use lib.Dec.{T}
+use lib.ListN.{length}
+use types.Run.{OneOf}
+use Rattle.model.specs.declared.FunctionResult.{FunctionResult}
+use Rattle.model.specs.declared.House.the-variants.{SourceGroup, ShortBuffer}
+use Rattle.model.specs.declared.Judged.{Judged}
+use Rattle.model.specs.declared.Judged.the-variants.{Asked, NoFrame, Fails}
+use Rattle.model.specs.declared.Request.{Request}
+use Rattle.model.specs.declared.Request.the-variants.{ReportGeneral, ReportManufacturer, ReportBroadcast}
+use Rattle.model.specs.declared.Request.the-variants.{ReportPhyErrorLog, ReportPhyEvent, PhyControl}
+use Rattle.model.specs.declared.Request.the-variants.{ConfigurePhyEvent}
+use Rattle.model.specs.declared.Served.{Served}
+use Rattle.model.specs.declared.Shelf.{Shelf}
+use Rattle.model.specs.Reply.{respond}
+use Rattle.model.specs.Request.{functionOf, phyOf, judge}
+use Rattle.model.specs.Results.{accepted, decide}
+use Rattle.model.specs.Server.{Handled, Sends, refuse, fail, handleJudged, handle, answer, lent, served, lentAfter}
+use Rattle.model.specs.Shelf.{exists}
+use Rattle.model.specs.Writes.{effect}
+use Rattle.model.proofs.Judged.{the-type}
+use Rattle.model.proofs.Laws.Checks.{passed-11, passed-14, passed-91, passed-93}
+use Rattle.model.proofs.Plain.Reach.{exists-iff}
+use Rattle.server.specs.Judgement.{judgedReply}
+
+module _ (s : Shelf) (g : ℕ) (frame out : List ℕ) where
+  -- both halves of what `serve` promises
+  abbrev pub Serves : Served → List ℕ → Type 0
+  Serves told left = (told ≡ served s g frame out) × (left ≡ lentAfter s g frame out)
+
+  -- how a request was handled settles both
+  serves : (h : Handled) → handle s g frame (length out) ≡ h
+      → Serves (record { answer = answer (h .reply); shelf = h .shelf }) (lent out (h .reply))
+  unfolding served lentAfter
+  serves h e = rw e (refl, refl)
+
+  pub serves-H4 : 31 < g → Serves (record { answer = answer (refuse s SourceGroup .reply); shelf = s }) out
+  unfolding handle
+  serves-H4 above = serves (refuse s SourceGroup) (rw (lt-ltb 31 g above))
+
+  pub serves-H5 : g ≤ 31 → length out < 1028
+      → Serves (record { answer = answer (refuse s ShortBuffer .reply); shelf = s }) out
+  unfolding handle
+  serves-H5 group short = serves (refuse s ShortBuffer) (rw (le-ltb 31 g group, lt-ltb (length out) 1028 short))
+
+  -- past H4 and H5 the judgement decides
+  module _ (group : g ≤ 31) (room : 1028 ≤ length out) where
+    judged-handled : handle s g frame (length out) ≡ handleJudged s g frame (judge frame)
+    unfolding handle
+    judged-handled = rw (le-ltb 31 g group, le-ltb (length out) 1028 room)
+
+    -- what the `else` of `let Judged::Asked(request) = ..` knows
+    turned : (judged : Judged) → OneOf (1 ∷ 2 ∷ []) (tagOf the-type judged)
+        → handleJudged s g frame judged ≡ record { reply = judgedReply (functionOf frame) judged; shelf = s }
+    turned (Asked request) e = absurd (⊎-elim (λ e′. omega (arith, e′)) (λ e′. omega (arith, e′)) e)
+    turned (NoFrame house) e = refl
+    turned (Fails result) e = refl
+
+    pub serves-judged : OneOf (1 ∷ 2 ∷ []) (tagOf the-type (judge frame))
+        → Serves (record { answer = answer (judgedReply (functionOf frame) (judge frame)); shelf = s })
+        (lent out (judgedReply (functionOf frame) (judge frame)))
+    serves-judged other = serves _ (judged-handled ∙ turned (judge frame) other)
+
+    pub serves-failed : (request : Request) → judge frame ≡ Asked request → accepted (decide s g frame request) ≡ false
+        → Serves (record { answer = answer (fail s frame (decide s g frame request) .reply); shelf = s })
+        (lent out (fail s frame (decide s g frame request) .reply))
+    serves-failed request asks fails =
+        serves (fail s frame (decide s g frame request)) (judged-handled ∙ rw (asks, fails))
+
+    pub serves-accepted : (request : Request) → judge frame ≡ Asked request → accepted (decide s g frame request) ≡ true
+        → Serves (record { answer = answer (Sends (respond s g request)); shelf = effect s frame request })
+        (lent out (Sends (respond s g request)))
+    serves-accepted request asks passes =
+        serves (record { reply = Sends (respond s g request); shelf = effect s frame request })
+        (judged-handled ∙ rw (asks, passes))
+
+-- the phy of an accepted request, if it has one, is in the array
+module _ (s : Shelf) (g : ℕ) (frame : List ℕ) where
+  in-array : (p : ℕ) → exists s p ≡ true → p < 24
+  in-array p there = exists-iff s p .0 (subst⁻¹ T there tt) .1
+
+  pub phy-there : (request : Request) → accepted (decide s g frame request) ≡ true → phyOf request < 24
+  phy-there ReportGeneral e = omega arith
+  phy-there ReportManufacturer e = omega arith
+  phy-there (ReportBroadcast kind) e = omega arith
+  phy-there (ReportPhyErrorLog p) e = in-array p (passed-11 s g frame p e .0)
+  phy-there (ReportPhyEvent p) e = in-array p (passed-14 s g frame p e .0)
+  phy-there (PhyControl expected p operation) e = in-array p (passed-91 s g frame expected p operation e .0)
+  phy-there (ConfigurePhyEvent expected clear p d) e = in-array p (passed-93 s g frame expected p d clear e .0)

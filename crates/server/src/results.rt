@@ -1,0 +1,127 @@
+// "Function results .. In this order, first failure decides." What a request that was read comes to, from
+// pieces of the shelf: the present change count, whether the request's phy exists, and whether the
+// source reaches it.
+use model::FunctionResult;
+use model::Request;
+use writes::descriptors::first_unsupported;
+ghost use mathlib.Core.Path.{_≡_};
+ghost use Rattle.model.specs.Results.{countRight, knownOperation, checkPhy, checkWrite};
+ghost use Rattle.model.specs.Results.{checkKind, checkOperation, checkDescriptors, resultOf};
+ghost use Rattle.model.specs.declared.FunctionResult.the-variants.{Accepted};
+
+// Not 04h: "91h and 93h, when bytes 4 and 5 are neither 0000h nor the present count"
+fn count_right(changes: u16, expected: u16) -> bool
+    ensures { λ r. ⌜ r ≡ countRight changes expected ⌝ }
+{
+    (expected == 0x0000) | (expected == changes)
+}
+
+// "10h PHY DOES NOT EXIST", then "Not reached", with its result
+fn check_phy(there: bool, reached: bool, unreached: FunctionResult) -> FunctionResult
+    ensures { λ r. ⌜ r ≡ checkPhy there reached unreached Accepted ⌝ }
+{
+    if !there {
+        return FunctionResult::PhyDoesNotExist;
+    }
+    if !reached {
+        return unreached;
+    }
+    FunctionResult::Accepted
+}
+
+// A write up to its contents: 04h, 10h, and "20h SMP ZONE VIOLATION for 91h and 93h"
+fn check_write(changes: u16, expected: u16, there: bool, reached: bool) -> FunctionResult
+    ensures { λ r. ⌜ r ≡ checkWrite (countRight changes expected) there reached Accepted ⌝ }
+{
+    if !count_right(changes, expected) {
+        return FunctionResult::InvalidExpanderChangeCount;
+    }
+    check_phy(there, reached, FunctionResult::SmpZoneViolation)
+}
+
+// "02h SMP FUNCTION FAILED for a broadcast type above 0Fh (06h)"
+fn check_kind(kind: u8) -> FunctionResult
+    ensures { λ r. ⌜ r ≡ checkKind kind ⌝ }
+{
+    if 0x0F < kind {
+        return FunctionResult::SmpFunctionFailed;
+    }
+    FunctionResult::Accepted
+}
+
+// Not 13h: "91h, any operation not named below"
+fn known_operation(operation: u8) -> bool
+    ensures { λ r. ⌜ r ≡ knownOperation operation ⌝ }
+{
+    (operation == 0x00) | (operation == 0x01) | (operation == 0x03) | (operation == 0x05)
+}
+
+// The contents of a 91h: "13h UNKNOWN PHY OPERATION"
+fn check_operation(operation: u8) -> FunctionResult
+    ensures { λ r. ⌜ r ≡ checkOperation operation ⌝ }
+{
+    if !known_operation(operation) {
+        return FunctionResult::UnknownPhyOperation;
+    }
+    FunctionResult::Accepted
+}
+
+// The contents of a 93h: "02h SMP FUNCTION FAILED for .. more than four descriptors (93h); then 17h
+// UNKNOWN PHY EVENT SOURCE (93h)"
+fn check_descriptors(frame: &[u8], d: u8) -> FunctionResult
+    ensures { λ r. ⌜ r ≡ checkDescriptors (now (frame .entry)) d ⌝ }
+{
+    if 4 < d {
+        return FunctionResult::SmpFunctionFailed;
+    }
+    if first_unsupported(frame, d) != d {
+        return FunctionResult::UnknownPhyEventSource;
+    }
+    FunctionResult::Accepted
+}
+
+// The result of a request. The contents of a write are judged only where all before has passed.
+pub fn result_of(
+    changes: u16,
+    there: bool,
+    reached: bool,
+    frame: &[u8],
+    request: Request,
+) -> FunctionResult
+    ensures { λ r. ⌜ r ≡ resultOf changes there reached (now (frame .entry)) request ⌝ }
+{
+    match request {
+        Request::ReportGeneral => FunctionResult::Accepted,
+        Request::ReportManufacturer => FunctionResult::Accepted,
+        Request::ReportBroadcast { kind } => check_kind(kind),
+        Request::ReportPhyErrorLog { phy: _ } => check_phy(
+            there,
+            reached,
+            FunctionResult::PhyVacant,
+        ),
+        Request::ReportPhyEvent { phy: _ } => check_phy(there, reached, FunctionResult::PhyVacant),
+        Request::PhyControl {
+            expected,
+            phy: _,
+            operation,
+        } => {
+            let write = check_write(changes, expected, there, reached);
+            let FunctionResult::Accepted = write else {
+                return write;
+            };
+            check_operation(operation)
+        }
+        Request::ConfigurePhyEvent {
+            expected,
+            clear: _,
+            phy: _,
+            number,
+        } => {
+            let write = check_write(changes, expected, there, reached);
+            let FunctionResult::Accepted = write else {
+                return write;
+            };
+            check_descriptors(frame, number)
+        }
+    }
+}
