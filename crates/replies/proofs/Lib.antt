@@ -1,2 +1,3 @@
--- A fact of bytes that are copied over a frame from a place on; the server's list of broadcasts uses it too.
+-- Facts of bytes that are copied into a buffer; the crates that write into the lent one use them too.
 pub mod Laid
+pub mod Sending

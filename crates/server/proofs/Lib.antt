@@ -1,5 +1,2 @@
--- Facts that the functions' proofs use.
-pub mod Listing
-pub mod Passing
-pub mod Sending
+-- What `served` and `lentAfter` come to, way by way.
 pub mod Handling

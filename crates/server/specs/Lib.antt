@@ -1,4 +1,2 @@
 -- What the server's own functions promise, beside the model's definitions.
-pub mod Listed
-pub mod Sent
 pub mod Judgement

@@ -1,11 +1,11 @@
 // The result of a request on this shelf: the pieces are taken out of the shelf, and `result_of` decides
 // from them.
-use crate::results::result_of;
 use gate::zone::smp_row_reaches;
 use model::FunctionResult;
 use model::Phy;
 use model::Request;
 use model::Shelf;
+use results::result_of;
 use shelf::phys::exists;
 use shelf::table::row;
 ghost use mathlib.Core.Path.{_≡_};

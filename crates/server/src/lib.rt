@@ -4,11 +4,9 @@
 // the shelf (`decide`, `results`); where it is accepted it is answered (`respond`, `broadcast`) and
 // carried out (`effect`). `serve` is proved equal to `served` of the model, and what the lent buffer
 // then holds to `lentAfter`. No public function asks anything of its caller.
-mod broadcast;
 mod decide;
 mod effect;
 mod respond;
-pub mod results;
 
 use crate::decide::decide;
 use crate::effect::effect;

@@ -1,5 +1,5 @@
 // The response to a request, in the lent buffer.
-use crate::broadcast::report_broadcast;
+use broadcasts::report_broadcast;
 use gate::numbers::result_code;
 use model::FunctionResult;
 use model::Request;
@@ -15,7 +15,7 @@ ghost use lib.ListN.{length};
 ghost use Rattle.model.specs.Reply.{failed, respond};
 ghost use Rattle.model.specs.Request.{phyOf};
 ghost use Rattle.model.specs.Results.{resultCode};
-ghost use Rattle.server.specs.Sent.{Sent};
+ghost use Rattle.replies.specs.Sent.{Sent};
 
 // The four bytes of a failed result. Gives their number.
 pub(crate) fn fail(function: u8, result: FunctionResult, out: &mut [u8]) -> usize

@@ -11,7 +11,7 @@ use Rattle.model.specs.Request.{phyOf, judge}
 use Rattle.model.specs.Results.{accepted, decide}
 use Rattle.model.proofs.Judged.{the-type}
 use Rattle.server.proofs.Handling.{serves-H4, serves-H5, serves-judged, serves-failed, serves-accepted, phy-there}
-use Rattle.server.proofs.Passing.{not-accepted}
+use Rattle.results.proofs.Passing.{not-accepted}
 use Rattle.server.proofs.serve.Statement.{statement}
 use Rattle.server.proofs.serve.Tie as tie
 use denote.Enum.Declared.{tagOf}

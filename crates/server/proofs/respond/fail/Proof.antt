@@ -2,7 +2,7 @@
 use borrow.Author.Needs.{needs}
 use mathlib.Core.Path.{_∙_, ap}
 use Rattle.model.specs.Reply.{failed}
-use Rattle.server.proofs.Sending.{sent}
+use Rattle.replies.proofs.Sending.{sent}
 use Rattle.server.proofs.respond.fail.Statement.{statement}
 use Rattle.server.proofs.respond.fail.Tie as tie
 

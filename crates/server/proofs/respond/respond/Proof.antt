@@ -2,12 +2,17 @@
 -- Assumes nothing.
 use borrow.Author.Needs.{needs}
 use Prim.Native.Nat.{_<_}
+use native.Mathlib.Omega.{arith}
 use mathlib.Core.Path.{_≡_, ap, subst, _∙_}
+use borrow.Author.Tests.{le-ltb}
+use lib.ListN.{length}
 use Rattle.model.specs.Reply.{respond, reportGeneral}
 use Rattle.model.specs.Request.{phyOf}
-use Rattle.server.proofs.Sending.{sent}
+use Rattle.replies.proofs.Sending.{sent}
 use Rattle.server.proofs.respond.respond.Statement.{statement}
 use Rattle.server.proofs.respond.respond.Tie as tie
+
+-- Assumes nothing.
 
 enum-told : tie.Need-enum-told
 enum-told c = search needs
@@ -147,7 +152,9 @@ returns-3 : tie.Need-returns-3
 unfolding respond
 returns-3 c =
     let sent = c .before .before in
-    rw (sent .before .before .before .request .given .1) (sent .report-broadcast .ensures)
+    let a = sent .before .before .before .before .before .before .args in
+    let room = le-ltb (length (a .out .now)) 1028 (omega arith) in
+    rw (sent .before .before .before .request .given .1) (rw room at (sent .report-broadcast .ensures))
 
 same-length-4 : tie.Need-same-length-4
 same-length-4 c = search needs

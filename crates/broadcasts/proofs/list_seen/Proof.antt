@@ -1,0 +1,31 @@
+-- `broadcasts::list_seen` meets its contract: what is listed of a phy, if the row reaches it. Assumes nothing.
+use borrow.Author.Needs.{needs}
+use native.Mathlib.Omega.{arith}
+use mathlib.Core.Path.{sym, _∙_}
+use borrow.Author.Tests.{not-true, not-false}
+use Rattle.broadcasts.proofs.Listing.{lists-none}
+use Rattle.broadcasts.proofs.list_seen.Statement.{statement}
+use Rattle.broadcasts.proofs.list_seen.Tie as tie
+
+smp-row-reaches-requires : tie.Need-smp-row-reaches-requires
+smp-row-reaches-requires c κs = search needs
+
+returns : tie.Need-returns
+returns c =
+    let a = c .before .before .before .args in
+    rw (sym (c .before .smp-row-reaches .ensures) ∙ not-true _ (c .if1 .taken)) (lists-none (a .out .now) (a .n))
+
+list-phy-requires : tie.Need-list-phy-requires
+list-phy-requires c κs = search needs
+
+same-length : tie.Need-same-length
+same-length c = search needs
+
+returns-2 : tie.Need-returns-2
+returns-2 c =
+    let seen = c .before .before .before .before in
+    rw (sym (seen .before .smp-row-reaches .ensures) ∙ not-false _ (seen .if1 .left)) (c .before .before .list-phy .ensures)
+
+pub list-seen-spec : {M : Type 1} → statement M
+list-seen-spec =
+    tie.close (tie.spec smp-row-reaches-requires returns list-phy-requires same-length returns-2)

@@ -1,0 +1,78 @@
+-- `broadcasts::report_broadcast` meets its contract: the list, and then its head in front of it. Assumes nothing.
+use borrow.Author.Needs.{needs}
+use native.Mathlib.Omega.{arith}
+use mathlib.Core.Path.{_≡_, refl, ap, _∙_}
+use borrow.Author.Tests.{lt-ltb, le-ltb}
+use lib.ListN.{length, length-append}
+use Rattle.model.specs.Reply.{broadcasts, broadcastHead, reportBroadcast}
+use Rattle.model.proofs.Demands.Frames.{broadcasts-few}
+use Rattle.model.proofs.Plain.Reply.{broadcast-bytes-length}
+use Rattle.broadcasts.proofs.Listing.{headed}
+use Rattle.broadcasts.proofs.report_broadcast.Statement.{statement}
+use Rattle.broadcasts.proofs.report_broadcast.Tie as tie
+
+returns : tie.Need-returns
+returns c = rw (lt-ltb (length (c .before .before .args .out .now)) 1028 (omega arith)) (refl, refl)
+
+list-all-requires : tie.Need-list-all-requires
+list-all-requires c κs = search needs
+
+broadcast-head-requires : tie.Need-broadcast-head-requires
+broadcast-head-requires c κs =
+    let walked = c .before .before in
+    let a = walked .before .before .before .before .args in
+    omega (arith, walked .list-all .ensures .0, broadcasts-few (a .shelf) (a .source) (a .kind))
+
+slice-aggregate-copy : tie.Need-slice-aggregate-copy
+slice-aggregate-copy c = search needs
+
+copy-requires : tie.Need-copy-requires
+copy-requires c κs = search needs
+
+cast-result : tie.Need-cast-result
+cast-result c = search needs
+
+mul-result : tie.Need-mul-result
+mul-result c = search needs
+
+add-result : tie.Need-add-result
+add-result c = search needs
+
+same-length : tie.Need-same-length
+same-length c = search needs
+
+returns-2 : tie.Need-returns-2
+unfolding reportBroadcast
+returns-2 c =
+    let copied = c .before .before in
+    let made = copied .before .before .before in
+    let walked = made .before .before .before in
+    let a = walked .before .before .before .before .args in
+    let bs = broadcasts (a .shelf) (a .source) (a .kind) in
+    let number : walked .list-all .result ≡ length bs = omega (arith, walked .list-all .ensures .0) in
+    let head = made .broadcast-head .ensures ∙ ap (broadcastHead (a .shelf .changes) (a .kind)) number in
+    let few = broadcasts-few (a .shelf) (a .source) (a .kind) in
+    rw (le-ltb (length (a .out .now)) 1028 (omega arith)) (
+      simp length-append (omega (arith, number, broadcast-bytes-length bs)),
+      rw (
+        copied .copy .ensures .1,
+        walked .list-all .ensures .1,
+        headed (a .out .now) (made .broadcast-head .result) bs (ap length head) (omega (arith, few)),
+        head,
+      ),
+    )
+
+pub report-broadcast-spec : {M : Type 1} → statement M
+report-broadcast-spec =
+    tie.close
+    (tie.spec
+    returns
+    list-all-requires
+    broadcast-head-requires
+    slice-aggregate-copy
+    copy-requires
+    cast-result
+    mul-result
+    add-result
+    same-length
+    returns-2)

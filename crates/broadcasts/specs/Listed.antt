@@ -1,0 +1,22 @@
+-- 06h: "then n descriptors of 8 bytes". The list is written into the lent buffer as it is walked.
+use Prim.Native.Nat.{ℕ, _+_, _*_}
+use mathlib.Core.Path.{_≡_}
+use mathlib.Core.Bool.{cond}
+use mathlib.Core.List.{List, []}
+use lib.Dec.{ltb}
+use lib.ListN.{length}
+use lib.Seq.{sets}
+use Rattle.model.specs.declared.Shelf.{Shelf}
+use Rattle.model.specs.Reply.{Broadcast, broadcastBytes, reportBroadcast}
+
+-- The buffer with the descriptors of these broadcasts, from the place of descriptor n on: 8 bytes come before the first.
+abbrev pub listedFrom : List ℕ → ℕ → List Broadcast → List ℕ
+listedFrom out n bs = sets out (8 + 8 * n) (broadcastBytes bs)
+
+-- These broadcasts are listed from descriptor n on: how many descriptors there are then, and what the buffer then holds.
+abbrev pub Lists : List ℕ → ℕ → List Broadcast → ℕ → List ℕ → Type 0
+Lists out n bs number after = (number ≡ n + length bs) × (after ≡ listedFrom out n bs)
+
+-- What a 06h sends into a buffer of this length: its response, or nothing where the buffer is shorter than 1,028 bytes.
+abbrev pub sentBroadcast : Shelf → ℕ → ℕ → ℕ → List ℕ
+sentBroadcast s g kind room = cond (ltb room 1028) [] (reportBroadcast s g kind)

@@ -1,0 +1,2 @@
+-- What a function that sends a response promises.
+pub mod Sent

@@ -1,0 +1,2 @@
+-- Facts that the functions' proofs use; the server's use `not-accepted` too.
+pub mod Passing
