@@ -6,8 +6,14 @@ use mathlib.Core.List.{List, []}
 use lib.Dec.{ltb}
 use lib.ListN.{length}
 use lib.Seq.{sets}
+use Rattle.model.specs.declared.Phy.{Phy}
 use Rattle.model.specs.declared.Shelf.{Shelf}
-use Rattle.model.specs.Reply.{Broadcast, broadcastBytes, reportBroadcast}
+use Rattle.model.specs.Reply.{Broadcast, phyListed, broadcastBytes, reportBroadcast}
+use Rattle.model.specs.Zone.{rowReaches}
+
+-- "A source sees FFh and the phys it reaches": what a source with this row sees of one phy.
+abbrev pub seenListed : ℕ → ℕ → ℕ → Phy → List Broadcast
+seenListed row kind p x = cond (rowReaches row (x .group)) (phyListed kind p x) []
 
 -- The buffer with the descriptors of these broadcasts, from the place of descriptor n on: 8 bytes come before the first.
 abbrev pub listedFrom : List ℕ → ℕ → List Broadcast → List ℕ

@@ -10,13 +10,10 @@ use replies::wire::two;
 use shelf::phys::phy_number;
 use shelf::table::row;
 ghost use mathlib.Core.Path.{_≡_};
-ghost use mathlib.Core.Bool.{cond};
-ghost use mathlib.Core.List.{[]};
 ghost use Prim.Native.Nat.{_+_, _*_, _≤_};
 ghost use lib.ListN.{length};
 ghost use Rattle.model.specs.Reply.{listed, deviceListed, phyListed, broadcasts, broadcastHead};
-ghost use Rattle.model.specs.Zone.{rowReaches};
-ghost use Rattle.broadcasts.specs.Listed.{Lists, sentBroadcast};
+ghost use Rattle.broadcasts.specs.Listed.{seenListed, Lists, sentBroadcast};
 ghost use Rattle.replies.specs.Sent.{Sent};
 
 // One count of the list, as descriptor n, unless it is 0: "Every non-zero count". Gives how many
@@ -66,7 +63,7 @@ fn list_phy(out: &mut [u8], n: u8, kind: u8, phy: u8, numbers: Phy) -> u8
 fn list_seen(out: &mut [u8], n: u8, row: u32, kind: u8, phy: u8, numbers: Phy) -> u8
     requires { ⌜ 1028 ≤ length (now out) ⌝ }
     requires { ⌜ n ≤ 58 ⌝ }
-    ensures { λ r. ⌜ Lists (now (out .entry)) n (cond (rowReaches row (numbers .group)) (phyListed kind phy numbers) []) r (now (out .exit)) ⌝ }
+    ensures { λ r. ⌜ Lists (now (out .entry)) n (seenListed row kind phy numbers) r (now (out .exit)) ⌝ }
 {
     if !smp_row_reaches(row, numbers.group) {
         return n;

@@ -15,8 +15,8 @@ use Rattle.model.specs.Shelf.{freshShelf, noShelf, startTaken, start}
 use Rattle.model.specs.ShelfW.{shelfW}
 use Rattle.model.specs.Sources.{counting, peak, supported}
 use Rattle.model.specs.Tests.{allBelow, sumBelow, joinBelow}
-use Rattle.model.specs.Writes.{controlled, controlChanges, setMonitor, setMonitors, clearMonitor, anyPeak}
-use Rattle.model.specs.Writes.{configured, effect}
+use Rattle.model.specs.Writes.{controlled, controlChanges, setMonitor, setMonitors, setOn, clearMonitor, anyPeak}
+use Rattle.model.specs.Writes.{clearOn, configured, effect}
 use Rattle.model.specs.Zone.{rowReaches, symmetric, legalTable}
 
 -- `unfolding f` opens whatever f's own `unfolding` line names: each set below is a name for such a line, and its value is of no interest.
@@ -41,7 +41,7 @@ unfolding reportGeneral reportManufacturer reportPhyErrorLog reportPhyEvent devi
 replies = 0
 
 unfoldable pub writes : ℕ
-unfolding controlled controlChanges setMonitor setMonitors clearMonitor anyPeak configured effect
+unfolding controlled controlChanges setMonitor setMonitors setOn clearMonitor anyPeak clearOn configured effect
 writes = 0
 
 unfoldable pub runs : ℕ

@@ -50,7 +50,7 @@ abbrev pub withMonitors : Phy → List Monitor → ℕ → Phy
 withMonitors x monitors expander2 =
     phyWith x (x .enabled) (x .errors) monitors (x .change0) (x .expander1) expander2
 
-abbrev pub setOn : List ℕ → ℕ → Phy → Phy
+unfoldable pub setOn : List ℕ → ℕ → Phy → Phy
 setOn frame d x = withMonitors x (setMonitors frame d 0 (x .monitors)) (x .expander2)
 
 -- "Then, if clearing, each of the phy's monitors on a peak source goes to 0, and if there is one such monitor or more,
@@ -62,7 +62,7 @@ unfoldable pub anyPeak : List Monitor → Bool
 anyPeak [] = false
 anyPeak (m ∷ ms) = peak (m .source) || anyPeak ms
 
-abbrev pub clearOn : Phy → Phy
+unfoldable pub clearOn : Phy → Phy
 clearOn x =
     withMonitors x (map clearMonitor (x .monitors)) (cond (anyPeak (x .monitors)) (originate (x .expander2)) (x .expander2))
 

@@ -57,7 +57,7 @@ pub fn report_phy_error_log(changes: u16, phy: u8, numbers: Phy) -> [u8; 28]
 }
 
 // A descriptor of 14h: "12 bytes: 3 source, 4 to 7 value, 8 to 11 threshold."
-pub fn event_descriptor(monitor: Monitor) -> [u8; 12]
+fn event_descriptor(monitor: Monitor) -> [u8; 12]
     ensures { λ r. ⌜ r ≡ eventDescriptor monitor ⌝ }
 {
     let mut descriptor = [0u8; 12];

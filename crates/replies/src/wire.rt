@@ -10,7 +10,7 @@ pub fn two(n: u16) -> [u8; 2]
 }
 
 // a number in four bytes
-pub fn four(n: u32) -> [u8; 4]
+pub(crate) fn four(n: u32) -> [u8; 4]
     ensures { λ r. ⌜ r ≡ four n ⌝ }
 {
     [

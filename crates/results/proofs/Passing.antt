@@ -1,7 +1,7 @@
 -- A result that is not accepted ends the judging, and one that is lets it go on. Assumes nothing.
 use Prim.Native.Nat.{ℕ, suc}
 use native.Mathlib.Omega.{arith}
-use mathlib.Core.Path.{_≡_, refl}
+use mathlib.Core.Path.{_≡_, refl, sym, ap, _∙_}
 use mathlib.Core.Bool.{Bool, true, false, true≢false, false≢true}
 use mathlib.Core.Logic.{_⊎_, ⊎-elim}
 use mathlib.Core.List.{[], _∷_}
@@ -24,8 +24,10 @@ no-zero = past (past (past (past (past (past (past (past (λ e. omega (arith, e)
     past rest = ⊎-elim (λ e. omega (arith, e)) rest
 
 -- what the `else` of a `let FunctionResult::Accepted = ..` knows: one of the other variants stands there
-pub not-accepted : (result : FunctionResult)
-    → OneOf (1 ∷ 2 ∷ 3 ∷ 4 ∷ 5 ∷ 6 ∷ 7 ∷ 8 ∷ 9 ∷ []) (tagOf the-type result) → accepted result ≡ false
+abbrev pub Other : FunctionResult → Type 0
+Other result = OneOf (1 ∷ 2 ∷ 3 ∷ 4 ∷ 5 ∷ 6 ∷ 7 ∷ 8 ∷ 9 ∷ []) (tagOf the-type result)
+
+pub not-accepted : (result : FunctionResult) → Other result → accepted result ≡ false
 not-accepted Accepted e = absurd (no-zero e)
 not-accepted UnknownSmpFunction e = refl
 not-accepted SmpFunctionFailed e = refl
@@ -37,20 +39,26 @@ not-accepted PhyVacant e = refl
 not-accepted UnknownPhyEventSource e = refl
 not-accepted SmpZoneViolation e = refl
 
--- a write that fails before its contents fails so, whatever they are
-pub write-fails : (count there reached : Bool) (contents : FunctionResult)
-    → accepted (checkWrite count there reached Accepted) ≡ false
-    → checkWrite count there reached contents ≡ checkWrite count there reached Accepted
-write-fails true true true contents e = absurd (true≢false e)
-write-fails true true false contents e = refl
-write-fails true false reached contents e = refl
-write-fails false there reached contents e = refl
+-- A write that fails before its contents fails so, whatever they are; one that passes so far comes to what they come to.
+module _ (count there reached : Bool) (contents : FunctionResult) where
+  pub write-fails : {result : FunctionResult} → result ≡ checkWrite count there reached Accepted → Other result
+      → result ≡ checkWrite count there reached contents
+  write-fails {result} e other = e ∙ go count there reached (ap accepted (sym e) ∙ not-accepted result other)
+    where
+      go : (count there reached : Bool) → accepted (checkWrite count there reached Accepted) ≡ false
+          → checkWrite count there reached Accepted ≡ checkWrite count there reached contents
+      go true true true h = absurd (true≢false h)
+      go true true false h = refl
+      go true false reached h = refl
+      go false there reached h = refl
 
--- and one that passes so far comes to what its contents come to
-pub write-passes : (count there reached : Bool) (contents : FunctionResult)
-    → accepted (checkWrite count there reached Accepted) ≡ true
-    → checkWrite count there reached contents ≡ contents
-write-passes true true true contents e = refl
-write-passes true true false contents e = absurd (false≢true e)
-write-passes true false reached contents e = absurd (false≢true e)
-write-passes false there reached contents e = absurd (false≢true e)
+  pub write-passes : {result next : FunctionResult} → result ≡ checkWrite count there reached Accepted → result ≡ Accepted
+      → next ≡ contents → next ≡ checkWrite count there reached contents
+  write-passes e a n = n ∙ go count there reached (ap accepted (sym e ∙ a))
+    where
+      go : (count there reached : Bool) → accepted (checkWrite count there reached Accepted) ≡ true
+          → contents ≡ checkWrite count there reached contents
+      go true true true h = refl
+      go true true false h = absurd (false≢true h)
+      go true false reached h = absurd (false≢true h)
+      go false there reached h = absurd (false≢true h)

@@ -105,9 +105,9 @@ pub fn result_of(
             phy: _,
             operation,
         } => {
-            let write = check_write(changes, expected, there, reached);
-            let FunctionResult::Accepted = write else {
-                return write;
+            let control = check_write(changes, expected, there, reached);
+            let FunctionResult::Accepted = control else {
+                return control;
             };
             check_operation(operation)
         }
@@ -117,9 +117,9 @@ pub fn result_of(
             phy: _,
             number,
         } => {
-            let write = check_write(changes, expected, there, reached);
-            let FunctionResult::Accepted = write else {
-                return write;
+            let configure = check_write(changes, expected, there, reached);
+            let FunctionResult::Accepted = configure else {
+                return configure;
             };
             check_descriptors(frame, number)
         }

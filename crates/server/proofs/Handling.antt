@@ -1,8 +1,8 @@
 -- What `served` and `lentAfter` come to, way by way through `serve`. Assumes nothing.
 use Prim.Native.Nat.{ℕ, _≤_, _<_}
 use native.Mathlib.Omega.{arith}
-use mathlib.Core.Path.{_≡_, refl, sym, ap, subst⁻¹, _∙_}
-use mathlib.Core.Bool.{true, false}
+use mathlib.Core.Path.{_≡_, refl, ap, subst⁻¹, _∙_}
+use mathlib.Core.Bool.{Bool, true, false, cond}
 use mathlib.Core.Logic.{⊎-elim}
 use mathlib.Core.List.{List, [], _∷_}
 use borrow.Author.Tests.{lt-ltb, le-ltb}
@@ -20,16 +20,16 @@ use Rattle.model.specs.declared.Request.the-variants.{ReportPhyErrorLog, Report
 use Rattle.model.specs.declared.Request.the-variants.{ConfigurePhyEvent}
 use Rattle.model.specs.declared.Served.{Served}
 use Rattle.model.specs.declared.Shelf.{Shelf}
-use Rattle.model.specs.Reply.{respond}
-use Rattle.model.specs.Request.{functionOf, phyOf, judge}
-use Rattle.model.specs.Results.{accepted, decide}
-use Rattle.model.specs.Server.{Handled, Sends, refuse, fail, handleJudged, handle, answer, lent, served, lentAfter}
+use Rattle.model.specs.Reply.{failed, respond}
+use Rattle.model.specs.Request.{functionOf, judge}
+use Rattle.model.specs.Results.{resultCode, accepted, decide}
+use Rattle.model.specs.Server.{Handled, Sends, refuse, fail, conclude, handleJudged, handle, answer, lent, served, lentAfter}
 use Rattle.model.specs.Shelf.{exists}
 use Rattle.model.specs.Writes.{effect}
 use Rattle.model.proofs.Judged.{the-type}
 use Rattle.model.proofs.Laws.Checks.{passed-11, passed-14, passed-91, passed-93}
 use Rattle.model.proofs.Plain.Reach.{exists-iff}
-use Rattle.server.specs.Judgement.{judgedReply}
+use Rattle.server.specs.Serving.{judgedReply, drawn, leaves, InArray}
 
 module _ (s : Shelf) (g : ℕ) (frame out : List ℕ) where
   -- both halves of what `serve` promises
@@ -69,25 +69,36 @@ module _ (s : Shelf) (g : ℕ) (frame out : List ℕ) where
         (lent out (judgedReply (functionOf frame) (judge frame)))
     serves-judged other = serves _ (judged-handled ∙ turned (judge frame) other)
 
-    pub serves-failed : (request : Request) → judge frame ≡ Asked request → accepted (decide s g frame request) ≡ false
-        → Serves (record { answer = answer (fail s frame (decide s g frame request) .reply); shelf = s })
-        (lent out (fail s frame (decide s g frame request) .reply))
-    serves-failed request asks fails =
-        serves (fail s frame (decide s g frame request)) (judged-handled ∙ rw (asks, fails))
+    -- a request that was read: its result draws the response and leaves the shelf
+    concluded : (request : Request) (result : FunctionResult)
+        → conclude s g frame request result
+        ≡ record { reply = Sends (drawn s g request (functionOf frame) result); shelf = leaves s frame request result }
+    concluded request result = go (accepted result)
+      where
+        go : (b : Bool)
+            → cond b (record { reply = Sends (respond s g request); shelf = effect s frame request }) (fail s frame result)
+            ≡ record {
+              reply = Sends (cond b (respond s g request) (failed (functionOf frame) (resultCode result)));
+              shelf = cond b (effect s frame request) s;
+            }
+        go true = refl
+        go false = refl
 
-    pub serves-accepted : (request : Request) → judge frame ≡ Asked request → accepted (decide s g frame request) ≡ true
-        → Serves (record { answer = answer (Sends (respond s g request)); shelf = effect s frame request })
-        (lent out (Sends (respond s g request)))
-    serves-accepted request asks passes =
-        serves (record { reply = Sends (respond s g request); shelf = effect s frame request })
-        (judged-handled ∙ rw (asks, passes))
+    pub serves-asked : (request : Request) → judge frame ≡ Asked request
+        → let bytes = drawn s g request (functionOf frame) (decide s g frame request) in
+        Serves
+        (record { answer = answer (Sends bytes); shelf = leaves s frame request (decide s g frame request) })
+        (lent out (Sends bytes))
+    serves-asked request asks =
+        serves _
+        (judged-handled ∙ ap (handleJudged s g frame) asks ∙ concluded request (decide s g frame request))
 
 -- the phy of an accepted request, if it has one, is in the array
 module _ (s : Shelf) (g : ℕ) (frame : List ℕ) where
   in-array : (p : ℕ) → exists s p ≡ true → p < 24
   in-array p there = exists-iff s p .0 (subst⁻¹ T there tt) .1
 
-  pub phy-there : (request : Request) → accepted (decide s g frame request) ≡ true → phyOf request < 24
+  pub phy-there : (request : Request) → InArray request (decide s g frame request)
   phy-there ReportGeneral e = omega arith
   phy-there ReportManufacturer e = omega arith
   phy-there (ReportBroadcast kind) e = omega arith

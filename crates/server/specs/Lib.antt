@@ -1,2 +1,2 @@
 -- What the server's own functions promise, beside the model's definitions.
-pub mod Judgement
+pub mod Serving

@@ -1,5 +1,6 @@
 // What an accepted request does to the shelf: reads nothing, and a write puts its phy back changed.
 use counters::counts::originate;
+use model::FunctionResult;
 use model::Request;
 use model::Shelf;
 use writes::configure::configured;
@@ -9,6 +10,7 @@ ghost use mathlib.Core.Path.{_≡_};
 ghost use Prim.Native.Nat.{_<_};
 ghost use Rattle.model.specs.Request.{phyOf};
 ghost use Rattle.model.specs.Writes.{control, configure, effect};
+ghost use Rattle.server.specs.Serving.{leaves, InArray};
 
 // An accepted 91h: another record for its phy, and, where Change is originated, the change count.
 fn control(shelf: Shelf, phy: u8, operation: u8) -> Shelf
@@ -38,7 +40,7 @@ fn configure(shelf: Shelf, frame: &[u8], clear: bool, phy: u8, number: u8) -> Sh
 }
 
 // The shelf after an accepted request whose phy, if it has one, is there. "Reads change nothing."
-pub(crate) fn effect(shelf: Shelf, frame: &[u8], request: Request) -> Shelf
+fn effect(shelf: Shelf, frame: &[u8], request: Request) -> Shelf
     requires { ⌜ phyOf request < 24 ⌝ }
     ensures { λ r. ⌜ r ≡ effect shelf (now (frame .entry)) request ⌝ }
 {
@@ -60,4 +62,20 @@ pub(crate) fn effect(shelf: Shelf, frame: &[u8], request: Request) -> Shelf
             number,
         } => configure(shelf, frame, clear, phy, number),
     }
+}
+
+// The next shelf: a request has its full effect where its result is accepted, and otherwise none at all.
+pub(crate) fn next_shelf(
+    shelf: Shelf,
+    frame: &[u8],
+    request: Request,
+    result: FunctionResult,
+) -> Shelf
+    requires { ⌜ InArray request result ⌝ }
+    ensures { λ r. ⌜ r ≡ leaves shelf (now (frame .entry)) request result ⌝ }
+{
+    let FunctionResult::Accepted = result else {
+        return shelf;
+    };
+    effect(shelf, frame, request)
 }

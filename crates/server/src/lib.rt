@@ -9,13 +9,12 @@ mod effect;
 mod respond;
 
 use crate::decide::decide;
-use crate::effect::effect;
+use crate::effect::next_shelf;
 use crate::respond::fail;
-use crate::respond::respond;
+use crate::respond::reply;
 use gate::bytes::byte_at;
 use gate::frame::judge;
 use model::Answer;
-use model::FunctionResult;
 use model::House;
 use model::Judged;
 use model::Served;
@@ -24,7 +23,7 @@ ghost use mathlib.Core.Path.{_≡_};
 ghost use Prim.Native.Nat.{_≤_};
 ghost use lib.ListN.{length};
 ghost use Rattle.model.specs.Server.{answer, lent, served, lentAfter};
-ghost use Rattle.server.specs.Judgement.{judgedReply};
+ghost use Rattle.server.specs.Serving.{judgedReply};
 
 // What a frame that asks nothing is answered: H6, or 01h or 03h in a failed response.
 fn turned_away(judged: Judged, function: u8, out: &mut [u8]) -> Answer
@@ -66,14 +65,8 @@ pub fn serve(shelf: Shelf, source: u32, frame: &[u8], out: &mut [u8]) -> Served
         };
     };
     let result = decide(shelf, source, frame, request);
-    let FunctionResult::Accepted = result else {
-        return Served {
-            answer: Answer::Response(fail(function, result, out)),
-            shelf,
-        };
-    };
     Served {
-        answer: Answer::Response(respond(shelf, source, request, out)),
-        shelf: effect(shelf, frame, request),
+        answer: Answer::Response(reply(shelf, source, request, function, result, out)),
+        shelf: next_shelf(shelf, frame, request, result),
     }
 }

@@ -16,6 +16,7 @@ ghost use Rattle.model.specs.Reply.{failed, respond};
 ghost use Rattle.model.specs.Request.{phyOf};
 ghost use Rattle.model.specs.Results.{resultCode};
 ghost use Rattle.replies.specs.Sent.{Sent};
+ghost use Rattle.server.specs.Serving.{drawn, InArray};
 
 // The four bytes of a failed result. Gives their number.
 pub(crate) fn fail(function: u8, result: FunctionResult, out: &mut [u8]) -> usize
@@ -26,7 +27,7 @@ pub(crate) fn fail(function: u8, result: FunctionResult, out: &mut [u8]) -> usiz
 }
 
 // The accepted response to a request whose phy, if it has one, is there. Gives its length.
-pub(crate) fn respond(shelf: Shelf, source: u32, request: Request, out: &mut [u8]) -> usize
+fn respond(shelf: Shelf, source: u32, request: Request, out: &mut [u8]) -> usize
     requires { ⌜ 1028 ≤ length (now out) ⌝ }
     requires { ⌜ phyOf request < 24 ⌝ }
     ensures { λ r. ⌜ Sent (now (out .entry)) (respond shelf source request) r (now (out .exit)) ⌝ }
@@ -59,4 +60,23 @@ pub(crate) fn respond(shelf: Shelf, source: u32, request: Request, out: &mut [u8
             number: _,
         } => bytes::copy(&failed(0x93, 0x00), out),
     }
+}
+
+// The response that this result draws: the accepted one, or the four bytes of a failed result.
+pub(crate) fn reply(
+    shelf: Shelf,
+    source: u32,
+    request: Request,
+    function: u8,
+    result: FunctionResult,
+    out: &mut [u8],
+) -> usize
+    requires { ⌜ 1028 ≤ length (now out) ⌝ }
+    requires { ⌜ InArray request result ⌝ }
+    ensures { λ r. ⌜ Sent (now (out .entry)) (drawn shelf source request function result) r (now (out .exit)) ⌝ }
+{
+    let FunctionResult::Accepted = result else {
+        return fail(function, result, out);
+    };
+    respond(shelf, source, request, out)
 }

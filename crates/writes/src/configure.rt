@@ -111,25 +111,29 @@ fn any_peak(monitors: [Monitor; 4]) -> bool
     on_peak(monitors[0]) | on_peak(monitors[1]) | on_peak(monitors[2]) | on_peak(monitors[3])
 }
 
-// The phy once its peaks are cleared: "Expander 2h is originated once".
-fn clear_on(before: Phy) -> Phy
-    ensures { λ r. ⌜ r ≡ clearOn before ⌝ }
+// "Then, if clearing": the phy once its monitors are set and then its peaks cleared. "Expander 2h is
+// originated once" where what was set has a peak.
+fn set_then_clear(frame: &[u8], d: u8, before: Phy) -> Phy
+    ensures { λ r. ⌜ r ≡ clearOn (setOn (now (frame .entry)) d before) ⌝ }
 {
     let monitors = before.monitors;
-    let cleared = clear_monitors(monitors);
+    let set = set_monitors(frame, d, monitors);
+    let cleared = clear_monitors(set);
     let originated = originate(before.expander2);
     let mut after = before;
     after.monitors = cleared;
-    if any_peak(monitors) {
+    if any_peak(set) {
         after.expander2 = originated;
     }
     after
 }
 
-// "Then, if clearing": what the descriptors have set is cleared
+// The phy after a 93h with d descriptors, ".. if clearing" or not.
 pub fn configured(frame: &[u8], d: u8, clear: bool, before: Phy) -> Phy
     ensures { λ r. ⌜ r ≡ configured (now (frame .entry)) d clear before ⌝ }
 {
-    let set = set_on(frame, d, before);
-    if clear { clear_on(set) } else { set }
+    if clear {
+        return set_then_clear(frame, d, before);
+    }
+    set_on(frame, d, before)
 }

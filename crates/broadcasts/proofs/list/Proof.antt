@@ -10,7 +10,9 @@ use Rattle.broadcasts.proofs.list.Statement.{statement}
 use Rattle.broadcasts.proofs.list.Tie as tie
 
 returns : tie.Need-returns
-returns c = rw (eq-eqb (c .before .before .args .count) 0 (omega arith)) (lists-none (c .before .before .args .out .now) (c .before .before .args .n))
+returns c =
+    let a = c .before .before .args in
+    rw (eq-eqb (a .count) 0 (omega arith)) (lists-none (a .out .now) (a .n))
 
 mul-at : tie.Need-mul-at
 mul-at c = search needs

@@ -4,26 +4,26 @@ use borrow.Author.Needs.{needs}
 use Prim.Native.Nat.{ℕ, _+_, _-_, _≤_}
 use native.Mathlib.Numerals.{add-one}
 use native.Mathlib.Omega.{arith}
-use mathlib.Core.Path.{_≡_, sym, ap, _∙_}
-use mathlib.Core.Bool.{cond}
-use mathlib.Core.List.{List, [], _++_}
+use mathlib.Core.Path.{_≡_, _∙_}
+use mathlib.Core.List.{List, _++_}
 use lib.ListN.{length}
 use Rattle.model.specs.declared.Shelf.{Shelf}
 use Rattle.model.specs.Reach.{reaches}
-use Rattle.model.specs.Reply.{Broadcast, deviceListed, phyListed, broadcasts}
+use Rattle.model.specs.Reply.{Broadcast, deviceListed, broadcasts}
 use Rattle.model.specs.Shelf.{phyNumber, phyAt}
 use Rattle.model.specs.Tests.{joinBelow}
+use Rattle.model.specs.Zone.{row}
 use Rattle.model.proofs.Demands.Frames.{AtMost, device-few, phy-few}
 use Rattle.model.proofs.Laws.Join.{join-few}
 use Rattle.model.proofs.Laws.Tests.{cond-both}
-use Rattle.broadcasts.specs.Listed.{Lists}
+use Rattle.broadcasts.specs.Listed.{seenListed, Lists}
 use Rattle.broadcasts.proofs.Listing.{lists-none, lists-append, lists-length}
 use Rattle.broadcasts.proofs.list_all.Statement.{statement}
 use Rattle.broadcasts.proofs.list_all.Tie as tie
 
 -- what the source sees of phy p
 abbrev seen : Shelf → ℕ → ℕ → ℕ → List Broadcast
-seen shelf source kind p = cond (reaches shelf source p) (phyListed kind p (phyAt shelf p)) []
+seen shelf source kind p = seenListed (row (shelf .table) source) kind p (phyAt shelf p)
 
 seen-few : (shelf : Shelf) (source kind p : ℕ) → length (seen shelf source kind p) ≤ 2
 seen-few shelf source kind p =
@@ -102,7 +102,7 @@ loop-again c =
     let listed = rw (first .before .before .before .row .ensures) at (c .before .before .list-seen .ensures) in (
       omega arith,
       rw (join-more (turn .loop .p) of)
-          (lists-append (first .list-device .last .0) (first .list-device .result) (joinBelow (turn .loop .p) of) (of (turn .loop .p))
+          (lists-append _ (first .list-device .result) (joinBelow (turn .loop .p) of) (of (turn .loop .p))
           (turn .loop .inv .1) listed),
     )
 

@@ -19,7 +19,10 @@ list-requires-3 c κs =
     let l = c .before .before .before in
     let a = l .before .before .before .before .args in
     let bs = listed (a .phy) 0x1 (a .numbers .expander1) in
-    (omega (arith, lists-length (a .out .now) (a .n) bs (l .list2 .ensures)), omega (arith, l .list2 .ensures .0, listed-few (a .phy) 0x1 (a .numbers .expander1)))
+    let few = listed-few (a .phy) 0x1 (a .numbers .expander1) in (
+      omega (arith, lists-length (a .out .now) (a .n) bs (l .list2 .ensures)),
+      omega (arith, l .list2 .ensures .0, few),
+    )
 
 same-length : tie.Need-same-length
 same-length c = search needs

@@ -1,6 +1,5 @@
 -- `broadcasts::list_seen` meets its contract: what is listed of a phy, if the row reaches it. Assumes nothing.
 use borrow.Author.Needs.{needs}
-use native.Mathlib.Omega.{arith}
 use mathlib.Core.Path.{sym, _∙_}
 use borrow.Author.Tests.{not-true, not-false}
 use Rattle.broadcasts.proofs.Listing.{lists-none}

@@ -266,7 +266,7 @@ module _ (frame : List ℕ) (x : Phy) where
   configured-is : configured frame (byte frame 11) (clears frame) x
       ≡ withMonitors x monitorsAfter
       (cond (clears frame && anyPeak monitorsAfter) (originate (x .expander2)) (x .expander2))
-  unfolding configured
+  unfolding configured setOn clearOn
   configured-is = go (clears frame)
     where
       go : (clear : Bool)

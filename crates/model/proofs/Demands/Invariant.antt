@@ -245,10 +245,12 @@ control-keeps operation x =
     (fits-same x)))
 
 set-keeps : (frame : List ℕ) → BytesFit frame → (d : ℕ) (x : Phy) → FitsOn x (setOn frame d x)
+unfolding setOn
 set-keeps frame fit d x =
     fits-with x (λ f. f) (set-fits frame fit d (x .monitors)) (λ f. f) (λ f. f) (λ f. f)
 
 clear-keeps : (x : Phy) → FitsOn x (clearOn x)
+unfolding clearOn
 clear-keeps x =
     fits-with x (λ f. f) (map-fits clearMonitor clear-fits (x .monitors)) (λ f. f) (λ f. f)
     (moved-fits (anyPeak (x .monitors)) (x .expander2))

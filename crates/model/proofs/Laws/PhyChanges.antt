@@ -7,7 +7,7 @@ use mathlib.Core.List.{List}
 use lib.Dec.{eqb}
 use Rattle.model.specs.declared.Phy.{Phy}
 use Rattle.model.specs.Counting.{originate, eventOn, changeOn}
-use Rattle.model.specs.Writes.{withoutErrors, controlled, controlChanges, configured}
+use Rattle.model.specs.Writes.{withoutErrors, controlled, controlChanges, setOn, clearOn, configured}
 
 -- a count that is originated, or not
 abbrev pub moved : Bool → ℕ → ℕ
@@ -27,7 +27,7 @@ unfolding changeOn
 change-inner enables = record { group = λ x. refl; enabled = λ x. refl }
 
 pub configured-inner : (frame : List ℕ) (d : ℕ) (clear : Bool) → Inner (configured frame d clear) (λ b. b)
-unfolding configured
+unfolding configured setOn clearOn
 configured-inner frame d true = record { group = λ x. refl; enabled = λ x. refl }
 configured-inner frame d false = record { group = λ x. refl; enabled = λ x. refl }
 
@@ -71,7 +71,7 @@ unfolding changeOn
 change-changes enables x = refl
 
 pub configured-changes : (frame : List ℕ) (d : ℕ) (clear : Bool) → Changes (configured frame d clear) (λ x. false)
-unfolding configured
+unfolding configured setOn clearOn
 configured-changes frame d true x = refl
 configured-changes frame d false x = refl
 

@@ -16,13 +16,21 @@ returns-2 : tie.Need-returns-2
 returns-2 c =
     let first = c .before in
     let a = first .before .before .before .args in
-    rw (le-leb (a .d) 4 (omega arith), sym (first .first-unsupported .ensures), ne-eqb (first .first-unsupported .result) (a .d) (omega arith))
+    rw (
+      le-leb (a .d) 4 (omega arith),
+      sym (first .first-unsupported .ensures),
+      ne-eqb (first .first-unsupported .result) (a .d) (omega arith),
+    )
 
 returns-3 : tie.Need-returns-3
 returns-3 c =
     let first = c .before in
     let a = first .before .before .before .args in
-    rw (le-leb (a .d) 4 (omega arith), sym (first .first-unsupported .ensures), eq-eqb (first .first-unsupported .result) (a .d) (omega arith))
+    rw (
+      le-leb (a .d) 4 (omega arith),
+      sym (first .first-unsupported .ensures),
+      eq-eqb (first .first-unsupported .result) (a .d) (omega arith),
+    )
 
 pub check-descriptors-spec : {M : Type 1} → statement M
 check-descriptors-spec =

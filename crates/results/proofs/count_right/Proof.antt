@@ -1,5 +1,5 @@
 -- `results::count_right` meets its contract: "one of the two" is two comparisons. Assumes nothing.
-use mathlib.Core.Bool.{or-assoc, or-false}
+use mathlib.Core.Bool.{or-false}
 use Rattle.model.specs.Results.{countRight}
 use Rattle.results.proofs.count_right.Statement.{statement}
 use Rattle.results.proofs.count_right.Tie as tie

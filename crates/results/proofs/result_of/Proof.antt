@@ -1,8 +1,7 @@
 -- `results::result_of` meets its contract, request by request. Assumes nothing.
 use borrow.Author.Needs.{needs}
-use mathlib.Core.Path.{sym, ap, _∙_}
-use Rattle.model.specs.Results.{accepted, countRight, checkOperation, checkDescriptors, resultOf}
-use Rattle.results.proofs.Passing.{not-accepted, write-fails, write-passes}
+use Rattle.model.specs.Results.{countRight, resultOf}
+use Rattle.results.proofs.Passing.{write-fails, write-passes}
 use Rattle.results.proofs.result_of.Statement.{statement}
 use Rattle.results.proofs.result_of.Tie as tie
 
@@ -45,9 +44,8 @@ returns c =
     let write = c .before in
     let arm = write .before .before in
     let a = arm .before .before .before .args in
-    let fails = ap accepted (sym (write .check-write .ensures)) ∙ not-accepted (write .check-write .result) (c .match2 .keys2) in
-    rw (arm .request2 .given .1, write-fails (countRight (a .changes) (arm .request2 .given .0 .0)) (a .there) (a .reached) (checkOperation (arm .request2 .given .0 .1 .1 .0)) fails)
-    (write .check-write .ensures)
+    let count = countRight (a .changes) (arm .request2 .given .0 .0) in
+    rw (arm .request2 .given .1) (write-fails count (a .there) (a .reached) _ (write .check-write .ensures) (c .match2 .keys2))
 
 check-operation-requires : tie.Need-check-operation-requires
 check-operation-requires c κs = search needs
@@ -67,9 +65,8 @@ returns-2 c =
     let write = c .before in
     let arm = write .before .before in
     let a = arm .before .before .before .args in
-    let fails = ap accepted (sym (write .check-write2 .ensures)) ∙ not-accepted (write .check-write2 .result) (c .match3 .keys2) in
-    rw (arm .request3 .given .1, write-fails (countRight (a .changes) (arm .request3 .given .0 .0)) (a .there) (a .reached) (checkDescriptors (a .frame .now) (arm .request3 .given .0 .1 .1 .1 .0)) fails)
-    (write .check-write2 .ensures)
+    let count = countRight (a .changes) (arm .request3 .given .0 .0) in
+    rw (arm .request3 .given .1) (write-fails count (a .there) (a .reached) _ (write .check-write2 .ensures) (c .match3 .keys2))
 
 check-descriptors-requires : tie.Need-check-descriptors-requires
 check-descriptors-requires c κs = search needs
@@ -100,9 +97,10 @@ returns-8 c =
     let write = c .before .before .before in
     let arm = write .before .before in
     let a = arm .before .before .before .args in
-    let passes = ap accepted (sym (write .check-write .ensures) ∙ c .before .enum-told5 .given .1) in
-    rw (arm .request2 .given .1, write-passes (countRight (a .changes) (arm .request2 .given .0 .0)) (a .there) (a .reached) (checkOperation (arm .request2 .given .0 .1 .1 .0)) passes)
-    (c .check-operation .ensures)
+    let count = countRight (a .changes) (arm .request2 .given .0 .0) in
+    rw (arm .request2 .given .1)
+    (write-passes count (a .there) (a .reached) _ (write .check-write .ensures) (c .before .enum-told5 .given .1)
+    (c .check-operation .ensures))
 
 returns-9 : tie.Need-returns-9
 unfolding resultOf
@@ -110,9 +108,10 @@ returns-9 c =
     let write = c .before .before .before in
     let arm = write .before .before in
     let a = arm .before .before .before .args in
-    let passes = ap accepted (sym (write .check-write2 .ensures) ∙ c .before .enum-told6 .given .1) in
-    rw (arm .request3 .given .1, write-passes (countRight (a .changes) (arm .request3 .given .0 .0)) (a .there) (a .reached) (checkDescriptors (a .frame .now) (arm .request3 .given .0 .1 .1 .1 .0)) passes)
-    (c .check-descriptors .ensures)
+    let count = countRight (a .changes) (arm .request3 .given .0 .0) in
+    rw (arm .request3 .given .1)
+    (write-passes count (a .there) (a .reached) _ (write .check-write2 .ensures) (c .before .enum-told6 .given .1)
+    (c .check-descriptors .ensures))
 
 pub result-of-spec : {M : Type 1} → statement M
 result-of-spec =

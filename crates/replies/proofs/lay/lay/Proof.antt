@@ -1,7 +1,6 @@
 -- `replies::lay::lay` meets its contract: a copy into the part of the frame that begins at the place. Assumes nothing.
 use borrow.Author.Needs.{needs}
 use native.Mathlib.Omega.{arith}
-use mathlib.Core.Path.{_∙_}
 use Rattle.replies.proofs.Laid.{laid-over}
 use Rattle.replies.proofs.lay.lay.Statement.{statement}
 use Rattle.replies.proofs.lay.lay.Tie as tie

@@ -26,7 +26,13 @@ originate-requires : tie.Need-originate-requires
 originate-requires c κs = search needs
 
 returns : tie.Need-returns
-returns c = rw (sym (c .before .before .control-changes .ensures) ∙ c .before .if1 .taken, c .before .before .before .controlled .ensures, c .originate .ensures)
+returns c =
+    let tested = c .before .before in
+    rw (
+      sym (tested .control-changes .ensures) ∙ c .before .if1 .taken,
+      tested .before .controlled .ensures,
+      c .originate .ensures,
+    )
 
 returns-2 : tie.Need-returns-2
 returns-2 c = rw (sym (c .before .control-changes .ensures) ∙ c .if1 .left, c .before .before .controlled .ensures)

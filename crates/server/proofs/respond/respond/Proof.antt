@@ -3,7 +3,7 @@
 use borrow.Author.Needs.{needs}
 use Prim.Native.Nat.{_<_}
 use native.Mathlib.Omega.{arith}
-use mathlib.Core.Path.{_≡_, ap, subst, _∙_}
+use mathlib.Core.Path.{ap, subst, _∙_}
 use borrow.Author.Tests.{le-ltb}
 use lib.ListN.{length}
 use Rattle.model.specs.Reply.{respond, reportGeneral}
@@ -60,7 +60,8 @@ mul-numbers : tie.Need-mul-numbers
 mul-numbers c = search needs
 
 element-copy-out-numbers : tie.Need-element-copy-out-numbers
-element-copy-out-numbers c = subst (λ r. phyOf r < 24) (c .before .request2 .given .1) (c .before .before .before .before .pre .1)
+element-copy-out-numbers c =
+    subst (λ r. phyOf r < 24) (c .before .request2 .given .1) (c .before .before .before .before .pre .1)
 
 report-phy-error-log-requires : tie.Need-report-phy-error-log-requires
 report-phy-error-log-requires c κs = search needs
@@ -81,7 +82,8 @@ mul-numbers-2 : tie.Need-mul-numbers-2
 mul-numbers-2 c = search needs
 
 element-copy-out-numbers-2 : tie.Need-element-copy-out-numbers-2
-element-copy-out-numbers-2 c = subst (λ r. phyOf r < 24) (c .before .request3 .given .1) (c .before .before .before .before .pre .1)
+element-copy-out-numbers-2 c =
+    subst (λ r. phyOf r < 24) (c .before .request3 .given .1) (c .before .before .before .before .pre .1)
 
 report-phy-event-requires : tie.Need-report-phy-event-requires
 report-phy-event-requires c κs = search needs

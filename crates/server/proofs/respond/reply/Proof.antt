@@ -1,0 +1,40 @@
+-- `server::respond::reply` meets its contract: the failed response, or the accepted one. Assumes nothing.
+use borrow.Author.Needs.{needs}
+use native.Mathlib.Omega.{arith}
+use mathlib.Core.Path.{ap}
+use Rattle.model.specs.Results.{accepted}
+use Rattle.results.proofs.Passing.{not-accepted}
+use Rattle.server.proofs.respond.reply.Statement.{statement}
+use Rattle.server.proofs.respond.reply.Tie as tie
+
+enum-told : tie.Need-enum-told
+enum-told c = search needs
+
+fail-requires : tie.Need-fail-requires
+fail-requires c κs = search needs
+
+same-length : tie.Need-same-length
+same-length c = search needs
+
+returns : tie.Need-returns
+returns c =
+    let sent = c .before .before in
+    let other = sent .before .before in
+    let result = other .before .before .args .result in
+    rw (not-accepted result (other .match .keys2)) (sent .fail .ensures)
+
+respond-requires : tie.Need-respond-requires
+respond-requires c κs = (omega arith, c .before .before .before .before .pre .1 (ap accepted (c .before .enum-told .given .1)))
+
+same-length-2 : tie.Need-same-length-2
+same-length-2 c = search needs
+
+returns-2 : tie.Need-returns-2
+returns-2 c =
+    let sent = c .before .before in
+    rw (sent .before .before .enum-told .given .1) (sent .respond .ensures)
+
+pub reply-spec : {M : Type 1} → statement M
+reply-spec =
+    tie.close
+    (tie.spec enum-told fail-requires same-length returns respond-requires same-length-2 returns-2)
