@@ -53,10 +53,11 @@ fn group_of(phys: [Phy; 24], phy: u8) -> u32
 pub(crate) fn decide(shelf: Shelf, source: u32, frame: &[u8], request: Request) -> FunctionResult
     ensures { λ r. ⌜ r ≡ decide shelf source (now (frame .entry)) request ⌝ }
 {
+    let changes = shelf.changes;
     let phy = phy_of(request);
     let there = exists(shelf.number, phy as u32);
     let table = shelf.table;
     let phys = shelf.phys;
     let reached = smp_row_reaches(row(table, source), group_of(phys, phy));
-    result_of(shelf.changes, there, reached, frame, request)
+    result_of(changes, there, reached, frame, request)
 }

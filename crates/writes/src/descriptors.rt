@@ -7,14 +7,14 @@ ghost use Rattle.model.specs.Request.{descriptorSource, descriptorThreshold};
 ghost use Rattle.model.specs.Request.{allowed, firstUnsupported};
 
 // "3 source"
-pub fn descriptor_source(frame: &[u8], i: u8) -> u8
+pub(crate) fn descriptor_source(frame: &[u8], i: u8) -> u8
     ensures { λ r. ⌜ r ≡ descriptorSource (now (frame .entry)) i ⌝ }
 {
     byte_at(frame, 12 + 8 * (i as usize) + 3)
 }
 
 // "4 to 7 threshold", big-endian
-pub fn descriptor_threshold(frame: &[u8], i: u8) -> u32
+pub(crate) fn descriptor_threshold(frame: &[u8], i: u8) -> u32
     ensures { λ r. ⌜ r ≡ descriptorThreshold (now (frame .entry)) i ⌝ }
 {
     let at = 12 + 8 * (i as usize) + 4;
@@ -24,7 +24,7 @@ pub fn descriptor_threshold(frame: &[u8], i: u8) -> u32
 }
 
 // What a descriptor may name: a supported source, or 00h ("00h allowed").
-pub fn allowed(source: u8) -> bool
+pub(crate) fn allowed(source: u8) -> bool
     ensures { λ r. ⌜ r ≡ allowed source ⌝ }
 {
     (source == 0x00) | supported(source as u32)

@@ -1,9 +1,13 @@
 -- `broadcasts::list` meets its contract: a count of 0 adds nothing, and any other one descriptor. Assumes nothing.
 use borrow.Author.Needs.{needs}
-use Prim.Native.Nat.{_+_, _*_}
+use Prim.Native.Nat.{_+_, _-_, _*_}
 use native.Mathlib.Omega.{arith}
-use mathlib.Core.Path.{refl}
+use mathlib.Core.Path.{refl, sym, ap, _∙_}
 use borrow.Author.Tests.{eq-eqb, ne-eqb}
+use borrow.Rule.Slice.PartMut.{putMid}
+use lib.ListN.{length}
+use lib.Seq.{sets}
+use Rattle.model.proofs.Plain.Reply.{entry}
 use Rattle.replies.proofs.Laid.{laid-over}
 use Rattle.broadcasts.proofs.Listing.{lists-none, listed-one}
 use Rattle.broadcasts.proofs.list.Statement.{statement}
@@ -49,13 +53,15 @@ returns-2 c =
     let copied = c .before .before in
     let made = copied .before .before .before in
     let a = made .before .before .before .args in
-    rw (
-      ne-eqb (a .count) 0 (omega arith),
-      copied .copy .ensures .1,
-      laid-over (a .out .now) (made .broadcast-descriptor .result) (8 + 8 * a .n) (omega arith),
-      made .broadcast-descriptor .ensures,
-      listed-one (a .out .now) (a .n),
-    ) (refl, refl)
+    let out = a .out .now in
+    let at = 8 + 8 * a .n in
+    rw (ne-eqb (a .count) 0 (omega arith)) (
+      refl,
+      ap (putMid at (length out - at) out) (copied .copy .ensures .1)
+          ∙ laid-over out (made .broadcast-descriptor .result) at (omega arith)
+          ∙ ap (sets out at) (made .broadcast-descriptor .ensures)
+          ∙ sym (listed-one out (a .n) (entry (a .phy) (a .reason) (a .count))),
+    )
 
 pub list-spec : {M : Type 1} → statement M
 list-spec =

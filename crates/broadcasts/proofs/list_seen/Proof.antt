@@ -12,7 +12,7 @@ smp-row-reaches-requires c κs = search needs
 returns : tie.Need-returns
 returns c =
     let a = c .before .before .before .args in
-    rw (sym (c .before .smp-row-reaches .ensures) ∙ not-true _ (c .if1 .taken)) (lists-none (a .out .now) (a .n))
+    simp (sym (c .before .smp-row-reaches .ensures) ∙ not-true _ (c .if1 .taken)) (lists-none (a .out .now) (a .n))
 
 list-phy-requires : tie.Need-list-phy-requires
 list-phy-requires c κs = search needs
@@ -23,7 +23,7 @@ same-length c = search needs
 returns-2 : tie.Need-returns-2
 returns-2 c =
     let seen = c .before .before .before .before in
-    rw (sym (seen .before .smp-row-reaches .ensures) ∙ not-false _ (seen .if1 .left)) (c .before .before .list-phy .ensures)
+    simp (sym (seen .before .smp-row-reaches .ensures) ∙ not-false _ (seen .if1 .left)) (c .before .before .list-phy .ensures)
 
 pub list-seen-spec : {M : Type 1} → statement M
 list-seen-spec =
