@@ -1,0 +1,50 @@
+-- `cases::request::read_frame` is safe and ends: the measure is how many places of the frame are left. Assumes nothing.
+use Prim.Native.Nat.{_-_}
+use borrow.Author.Needs.{needs}
+use Rattle.cases.proofs.request.read_frame.Statement.{statement}
+use Rattle.cases.proofs.request.read_frame.Tie as tie
+
+abbrev Inv-loop : tie.InvT-loop
+Inv-loop line frame₀ next₀ n₀ frame next n = Unit {0}
+
+abbrev μ-loop : tie.MeasureT-loop
+μ-loop line frame₀ next₀ n₀ frame next n = 1100 - n
+
+loop-holds : tie.Need-loop-holds Inv-loop μ-loop
+loop-holds c = search needs
+
+read-byte-requires : tie.Need-read-byte-requires Inv-loop μ-loop
+read-byte-requires c κs = search needs
+
+cast-frame : tie.Need-cast-frame Inv-loop μ-loop
+cast-frame c = search needs
+
+element-write-frame : tie.Need-element-write-frame Inv-loop μ-loop
+element-write-frame c = search needs
+
+add-n : tie.Need-add-n Inv-loop μ-loop
+add-n c = search needs
+
+loop-less : tie.Need-loop-less Inv-loop μ-loop
+loop-less c = search needs
+
+loop-again : tie.Need-loop-again Inv-loop μ-loop
+loop-again c = search needs
+
+returns : tie.Need-returns Inv-loop μ-loop
+returns c = search needs
+
+pub read-frame-spec : {M : Type 1} → statement M
+read-frame-spec =
+    tie.close
+    (tie.spec
+    Inv-loop
+    μ-loop
+    loop-holds
+    read-byte-requires
+    cast-frame
+    element-write-frame
+    add-n
+    loop-less
+    loop-again
+    returns)

@@ -1,0 +1,23 @@
+// Writing what a line of the script came to, after the line itself and an arrow.
+use libc::STDOUT_FILENO;
+use model::House;
+use spelling::house_text;
+use spelling::spell;
+
+// Writes that a line can't be read.
+pub fn print_unread() {
+    io::write_all(STDOUT_FILENO, b" ?\n");
+}
+
+// Writes a house refusal.
+pub fn print_house(house: House) {
+    let text = house_text(house);
+    io::write_all(STDOUT_FILENO, &text);
+}
+
+// Writes a response.
+pub fn print_response(response: &[u8]) {
+    let mut text = [0u8; 4096];
+    let n = spell(response, &mut text);
+    io::write_all(STDOUT_FILENO, &text[..n]);
+}

@@ -1,0 +1,85 @@
+// Running a line of the script.
+use crate::print::print_house;
+use crate::print::print_unread;
+use crate::request::run_request;
+use gate::bytes::byte_at;
+use libc::STDOUT_FILENO;
+use model::Reach;
+use model::Shelf;
+use model::Taken;
+use script::report::Told;
+use script::report::make_times;
+use script::report::read_report;
+use script::shelf_w::shelf_w;
+use script::text::Reading;
+use script::text::read;
+use script::text::unread;
+use shelf::reach::reach_query;
+use spelling::set_text;
+
+// `event on phy 2, source 2Dh, amount 12`, `65534 times: link change on phy 0` and the like
+fn run_report(shelf: Shelf, line: &[u8], from: Reading) -> Shelf {
+    match read_report(line, from) {
+        Told::Says { times, report } => {
+            let last = make_times(shelf, report, times);
+            let taken = last.taken;
+            match taken {
+                Taken::Done => {
+                    io::write_all(STDOUT_FILENO, b" done\n");
+                }
+                Taken::NotDone(house) => print_house(house),
+            }
+            last.shelf
+        }
+        Told::Nothing => {
+            print_unread();
+            shelf
+        }
+    }
+}
+
+// `reach of 8`: the set of phys, and how many they are.
+fn run_reach(shelf: Shelf, line: &[u8], from: Reading) {
+    let group = read(line, from, b"reach of #");
+    if !group.whole {
+        print_unread();
+        return;
+    }
+    match reach_query(shelf, group.third) {
+        Reach::Reaches { phys, number } => {
+            let text = set_text(phys);
+            io::write_all(STDOUT_FILENO, &text);
+            io::print_decimal(STDOUT_FILENO, number as u64);
+            io::write_all(STDOUT_FILENO, b"\n");
+        }
+        Reach::NoReach(house) => print_house(house),
+    }
+}
+
+// An operation: after the line come an arrow and the answer. Its first letter tells the kind.
+fn run_operation(shelf: Shelf, line: &[u8]) -> Shelf {
+    io::write_all(STDOUT_FILENO, b" ->");
+    let from = read(line, unread(), b"  ");
+    match byte_at(line, 2) {
+        b'f' => run_request(shelf, line, from),
+        b'r' => {
+            run_reach(shelf, line, from);
+            shelf
+        }
+        _ => run_report(shelf, line, from),
+    }
+}
+
+// Runs one line and writes it with what it came to; the shelf afterwards. A heading begins with no
+// space, and starts shelf W afresh. An empty line and a remark do nothing.
+pub fn run_line(shelf: Shelf, line: &[u8]) -> Shelf {
+    io::write_all(STDOUT_FILENO, line);
+    let remark = read(line, unread(), b"  - ");
+    let is_idle = (line.len() == 0) | remark.fits;
+    let is_heading = byte_at(line, 0) != b' ';
+    if !is_idle & !is_heading {
+        return run_operation(shelf, line);
+    }
+    io::write_all(STDOUT_FILENO, b"\n");
+    if is_idle { shelf } else { shelf_w() }
+}

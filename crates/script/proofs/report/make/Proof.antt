@@ -1,0 +1,63 @@
+-- `script::report::make` meets its contract: at each report the definition is left with that report's own outcome.
+-- Assumes nothing.
+use Rattle.script.specs.Report.{make}
+use borrow.Author.Needs.{needs}
+use Rattle.script.proofs.report.make.Statement.{statement}
+use Rattle.script.proofs.report.make.Tie as tie
+
+enum-known-report : tie.Need-enum-known-report
+enum-known-report c = search needs
+
+event-requires : tie.Need-event-requires
+event-requires c κs = search needs
+
+enum-known-report-2 : tie.Need-enum-known-report-2
+enum-known-report-2 c = search needs
+
+link-change-requires : tie.Need-link-change-requires
+link-change-requires c κs = search needs
+
+enum-told : tie.Need-enum-told
+enum-told c = search needs
+
+reduced-functionality-requires : tie.Need-reduced-functionality-requires
+reduced-functionality-requires c κs = search needs
+
+enum-told-2 : tie.Need-enum-told-2
+enum-told-2 c = search needs
+
+ses-notice-requires : tie.Need-ses-notice-requires
+ses-notice-requires c κs = search needs
+
+returns : tie.Need-returns
+unfolding make
+returns c = rw (c .before .before .report .given .1) (c .event .ensures)
+
+returns-2 : tie.Need-returns-2
+unfolding make
+returns-2 c = rw (c .before .before .report2 .given .1) (c .link-change .ensures)
+
+returns-3 : tie.Need-returns-3
+unfolding make
+returns-3 c = rw (c .before .enum-told .given .1, c .reduced-functionality .ensures)
+
+returns-4 : tie.Need-returns-4
+unfolding make
+returns-4 c = rw (c .before .enum-told2 .given .1, c .ses-notice .ensures)
+
+pub make-spec : {M : Type 1} → statement M
+make-spec =
+    tie.close
+    (tie.spec
+    enum-known-report
+    event-requires
+    enum-known-report-2
+    link-change-requires
+    enum-told
+    reduced-functionality-requires
+    enum-told-2
+    ses-notice-requires
+    returns
+    returns-2
+    returns-3
+    returns-4)

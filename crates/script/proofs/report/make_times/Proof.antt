@@ -1,0 +1,45 @@
+-- `script::report::make_times` meets its contract. The loop's invariant: made as many times more as are left, it comes to
+-- what the definition says. The measure is how many are left. Assumes nothing.
+use Prim.Native.Nat.{_≤_, _-_}
+use native.Mathlib.Omega.{arith}
+use mathlib.Core.Path.{_≡_, _∙_}
+use Rattle.script.specs.Report.{makeMore}
+use Rattle.script.proofs.Left.{make-turn}
+use borrow.Author.Needs.{needs}
+use Rattle.script.proofs.report.make_times.Statement.{statement}
+use Rattle.script.proofs.report.make_times.Tie as tie
+
+abbrev Inv-loop : tie.InvT-loop
+Inv-loop report times outcome₀ counter₀ outcome counter =
+    (counter ≤ times) × (makeMore outcome report (times - counter) ≡ makeMore outcome₀ report times)
+
+abbrev μ-loop : tie.MeasureT-loop
+μ-loop report times outcome₀ counter₀ outcome counter = times - counter
+
+loop-holds : tie.Need-loop-holds Inv-loop μ-loop
+loop-holds c =
+    let e : c .args .times - 0 ≡ c .args .times = omega arith in
+    (omega arith, rw e)
+
+make-requires : tie.Need-make-requires Inv-loop μ-loop
+make-requires c κs = search needs
+
+add-counter : tie.Need-add-counter Inv-loop μ-loop
+add-counter c = search needs
+
+loop-less : tie.Need-loop-less Inv-loop μ-loop
+loop-less c = search needs
+
+loop-again : tie.Need-loop-again Inv-loop μ-loop
+loop-again c = (omega arith, rw (c .make .ensures) (make-turn _ _ _ _ (omega arith) ∙ c .before .before .before .loop .inv .1))
+
+returns : tie.Need-returns Inv-loop μ-loop
+unfolding makeMore
+returns c =
+    let done : c .before .before .args .times - c .before .loop .counter ≡ 0 = omega arith in
+    rw done at (c .before .loop .inv .1)
+
+pub make-times-spec : {M : Type 1} → statement M
+make-times-spec =
+    tie.close
+    (tie.spec Inv-loop μ-loop loop-holds make-requires add-counter loop-less loop-again returns)

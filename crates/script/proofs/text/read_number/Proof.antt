@@ -1,0 +1,15 @@
+-- `script::text::read_number` meets its contract. Assumes nothing.
+use Rattle.script.specs.Text.{readNumber}
+use borrow.Author.Needs.{needs}
+use Rattle.script.proofs.text.read_number.Statement.{statement}
+use Rattle.script.proofs.text.read_number.Tie as tie
+
+digits-requires : tie.Need-digits-requires
+digits-requires c κs = search needs
+
+returns : tie.Need-returns
+unfolding readNumber
+returns c = rw (c .before .before .before .digits .ensures)
+
+pub read-number-spec : {M : Type 1} → statement M
+read-number-spec = tie.close (tie.spec digits-requires returns)

@@ -1,0 +1,38 @@
+-- `script::text::read_one` meets its contract: at each mark the definition is left with what it stands for. Assumes nothing.
+use borrow.Author.Tests.{ne-eqb}
+use Rattle.script.specs.Text.{readOne}
+use borrow.Author.Needs.{needs}
+use Rattle.script.proofs.text.read_one.Statement.{statement}
+use Rattle.script.proofs.text.read_one.Tie as tie
+
+read-number-requires : tie.Need-read-number-requires
+read-number-requires c κs = search needs
+
+read-number-requires-2 : tie.Need-read-number-requires-2
+read-number-requires-2 c κs = search needs
+
+read-byte-requires : tie.Need-read-byte-requires
+read-byte-requires c κs = search needs
+
+returns : tie.Need-returns
+unfolding readOne
+returns c = simp (c .before .match .keys1) (c .read-number .ensures)
+
+returns-2 : tie.Need-returns-2
+unfolding readOne
+returns-2 c = simp (c .before .match .keys2) (c .read-number2 .ensures)
+
+returns-3 : tie.Need-returns-3
+unfolding readOne
+returns-3 c = simp (ne-eqb _ _ (c .before .match .rest .0 .1), ne-eqb _ _ (c .before .match .rest .1)) (c .read-byte .ensures)
+
+pub read-one-spec : {M : Type 1} → statement M
+read-one-spec =
+    tie.close
+    (tie.spec
+    read-number-requires
+    read-number-requires-2
+    read-byte-requires
+    returns
+    returns-2
+    returns-3)

@@ -1,0 +1,66 @@
+-- The bytes that a text begins with. Assumes nothing.
+use Prim.Native.Nat.{ℕ, zero, suc, _+_, _*_, _/_, _%_, _<_, _≤_, min}
+use native.Mathlib.Numerals.{add-one}
+use native.Mathlib.Omega.{arith}
+use mathlib.Core.Path.{_≡_, refl, ap, sym, _∙_}
+use mathlib.Core.List.{List, [], _∷_, _++_, append-assoc}
+use lib.ListN.{length, take, set, getD, length-set}
+use lib.Seq.{take-nil, take-suc, take-suc-set, length-take-le}
+use Rattle.spelling.specs.Part.{Counts}
+use Rattle.spelling.specs.Spelling.{hexDigit, bytesText, responseText}
+
+pub counts : (n : ℕ) (xs : List ℕ) → n ≤ length xs → Counts n xs
+counts n xs h = (h, sym (length-take-le n xs h))
+
+-- there are no more to take than there are
+pub take-min : (k : ℕ) (l : List ℕ) → take (min k (length l)) l ≡ take k l
+take-min zero l =
+    let e : min 0 (length l) ≡ 0 = omega arith in
+    rw e
+take-min (suc k) [] = rw (take-nil (min (suc k) 0))
+take-min (suc k) (x ∷ l) =
+    let e : min (suc k) (suc (length l)) ≡ suc (min k (length l)) = omega arith in
+    rw (e, take-min k l)
+
+-- one store after those that were taken
+take-store : (l : List ℕ) (n a : ℕ) → n < length l → take (n + 1) (set l n a) ≡ take n l ++ (a ∷ [])
+take-store l n a h = rw (add-one, take-suc-set l n a h)
+
+-- three of them
+three-stores : (l : List ℕ) (n a b c : ℕ) → n + 3 ≤ length l
+    → take (n + 3) (set (set (set l n a) (n + 1) b) (n + 2) c) ≡ take n l ++ (a ∷ b ∷ c ∷ [])
+three-stores l n a b c h =
+    let e3 : n + 3 ≡ (n + 2) + 1 = omega arith in
+    let e2 : n + 2 ≡ (n + 1) + 1 = omega arith in
+    rw e3
+    (rw (take-store (set (set l n a) (n + 1) b) (n + 2) c (simp length-set (omega arith)))
+    (rw (ap (λ (k : ℕ). take k (set (set l n a) (n + 1) b)) e2)
+    (rw (take-store (set l n a) (n + 1) b (simp length-set (omega arith)), take-store l n a (omega arith))
+    (simp append-assoc))))
+
+bytes-append : (xs ys : List ℕ) → bytesText (xs ++ ys) ≡ bytesText xs ++ bytesText ys
+unfolding bytesText
+bytes-append [] ys = refl
+bytes-append (x ∷ xs) ys = rw (bytes-append xs ys)
+
+-- one byte of a response is spelled
+pub spell-turn : (text response : List ℕ) (i : ℕ) → 3 * i + 3 ≤ length text → i < length response
+    → take (3 * i) text ≡ bytesText (take i response)
+    → take (3 * (i + 1))
+    (set (set (set text (3 * i) 0x20) (3 * i + 1) (hexDigit (getD response i 0 / 16))) (3 * i + 2)
+    (hexDigit (getD response i 0 % 16)))
+    ≡ bytesText (take (i + 1) response)
+unfolding bytesText
+spell-turn text response i h k so-far =
+    let e : 3 * (i + 1) ≡ 3 * i + 3 = omega arith in
+    rw (e, three-stores text (3 * i) _ _ _ h, so-far, add-one, take-suc response i 0 k, bytes-append)
+
+-- the newline after the last
+pub spell-end : (text response : List ℕ) (i n : ℕ) → i ≡ n → n ≡ min 1364 (length response) → 3 * n < length text
+    → take (3 * i) text ≡ bytesText (take i response)
+    → take (3 * n + 1) (set text (3 * n) 0x0A) ≡ responseText response
+unfolding responseText
+spell-end text response i n all most h so-far =
+    let spelled : take (3 * n) text ≡ bytesText (take n response) = rw all at so-far in
+    let taken : take n response ≡ take 1364 response = ap (λ (k : ℕ). take k response) most ∙ take-min 1364 response in
+    rw (take-store text (3 * n) 0x0A h, spelled, taken)

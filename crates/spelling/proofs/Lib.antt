@@ -1,0 +1,2 @@
+-- Facts of the bytes that a text begins with.
+pub mod Front

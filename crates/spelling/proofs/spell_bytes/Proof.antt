@@ -1,0 +1,127 @@
+-- `spelling::spell_bytes` meets its contract. The loop's invariant: the text begins with the bytes so far. The measure is
+-- how many bytes are left. Assumes nothing.
+use Prim.Native.Nat.{_*_, _-_, _≤_}
+use native.Mathlib.Omega.{arith}
+use mathlib.Core.Path.{_≡_, refl}
+use lib.ListN.{length, take, length-set}
+use Rattle.spelling.specs.Spelling.{bytesText}
+use Rattle.spelling.proofs.Front.{counts, spell-turn, spell-end}
+use borrow.Author.Needs.{needs}
+use Rattle.spelling.proofs.spell_bytes.Statement.{statement}
+use Rattle.spelling.proofs.spell_bytes.Tie as tie
+
+abbrev Inv-loop : tie.InvT-loop
+Inv-loop response text₀ n i₀ text i = (i ≤ n) × (length text ≡ 4096) × (take (3 * i) text ≡ bytesText (take i response))
+
+abbrev μ-loop : tie.MeasureT-loop
+μ-loop response text₀ n i₀ text i = n - i
+
+within-requires : tie.Need-within-requires Inv-loop μ-loop
+within-requires c κs = search needs
+
+loop-holds : tie.Need-loop-holds Inv-loop μ-loop
+unfolding bytesText
+loop-holds c = (omega arith, omega arith, refl)
+
+mul-text : tie.Need-mul-text Inv-loop μ-loop
+mul-text c = search needs
+
+slice-write-text : tie.Need-slice-write-text Inv-loop μ-loop
+slice-write-text c = search needs
+
+shared-slice-read-hex-digit : tie.Need-shared-slice-read-hex-digit Inv-loop μ-loop
+shared-slice-read-hex-digit c = search needs
+
+hex-digit-requires : tie.Need-hex-digit-requires Inv-loop μ-loop
+hex-digit-requires c κs = search needs
+
+mul-text-2 : tie.Need-mul-text-2 Inv-loop μ-loop
+mul-text-2 c = search needs
+
+add-text : tie.Need-add-text Inv-loop μ-loop
+add-text c = search needs
+
+slice-write-text-2 : tie.Need-slice-write-text-2 Inv-loop μ-loop
+slice-write-text-2 c = simp length-set (omega arith)
+
+shared-slice-read-hex-digit-2 : tie.Need-shared-slice-read-hex-digit-2 Inv-loop μ-loop
+shared-slice-read-hex-digit-2 c = search needs
+
+hex-digit-requires-2 : tie.Need-hex-digit-requires-2 Inv-loop μ-loop
+hex-digit-requires-2 c κs = search needs
+
+mul-text-3 : tie.Need-mul-text-3 Inv-loop μ-loop
+mul-text-3 c = search needs
+
+add-text-2 : tie.Need-add-text-2 Inv-loop μ-loop
+add-text-2 c = search needs
+
+slice-write-text-3 : tie.Need-slice-write-text-3 Inv-loop μ-loop
+slice-write-text-3 c = simp length-set (omega arith)
+
+add-i : tie.Need-add-i Inv-loop μ-loop
+add-i c = search needs
+
+loop-less : tie.Need-loop-less Inv-loop μ-loop
+loop-less c = search needs
+
+loop-again : tie.Need-loop-again Inv-loop μ-loop
+loop-again c =
+    let a = c .before .before .before .before .before .before .before .before .before .args in
+    let at = c .before .before .before .before .before .loop in
+    let turn = spell-turn (at .text) (a .response .now) (at .i) (omega arith) (omega arith) (at .inv .2) in
+    (omega arith, simp length-set (omega arith), rw (c .before .before .hex-digit .ensures, c .hex-digit2 .ensures) turn)
+
+mul-text-4 : tie.Need-mul-text-4 Inv-loop μ-loop
+mul-text-4 c = search needs
+
+slice-write-text-4 : tie.Need-slice-write-text-4 Inv-loop μ-loop
+slice-write-text-4 c = search needs
+
+mul-result : tie.Need-mul-result Inv-loop μ-loop
+mul-result c = search needs
+
+add-result : tie.Need-add-result Inv-loop μ-loop
+add-result c = search needs
+
+same-length : tie.Need-same-length Inv-loop μ-loop
+same-length c = simp length-set (omega arith)
+
+returns : tie.Need-returns Inv-loop μ-loop
+returns c =
+    let a = c .before .before .before .before .before .args in
+    let at = c .before .loop in
+    let n = c .before .before .within in (
+      counts _ _ (simp length-set (omega arith)),
+      spell-end (at .text) (a .response .now) (at .i) (n .result) (omega arith) (n .ensures .1) (omega arith) (at .inv .2),
+    )
+
+pub spell-bytes-spec : {M : Type 1} → statement M
+spell-bytes-spec =
+    tie.close
+    (tie.spec
+    Inv-loop
+    μ-loop
+    within-requires
+    loop-holds
+    mul-text
+    slice-write-text
+    shared-slice-read-hex-digit
+    hex-digit-requires
+    mul-text-2
+    add-text
+    slice-write-text-2
+    shared-slice-read-hex-digit-2
+    hex-digit-requires-2
+    mul-text-3
+    add-text-2
+    slice-write-text-3
+    add-i
+    loop-less
+    loop-again
+    mul-text-4
+    slice-write-text-4
+    mul-result
+    add-result
+    same-length
+    returns)

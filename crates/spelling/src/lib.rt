@@ -1,0 +1,76 @@
+// How the answers to a script are spelled: each after a space.
+//
+// Nothing here writes by itself, and no public function asks anything of its caller. Each is proved
+// to give what a definition of specs/ says.
+pub mod part;
+
+use gate::numbers::house_number;
+use model::House;
+use part::within;
+ghost use mathlib.Core.Path.{_≡_};
+ghost use lib.ListN.{length, take};
+ghost use Rattle.spelling.specs.Part.{Counts};
+ghost use Rattle.spelling.specs.Spelling.{hexDigit, houseText, setText, responseText};
+
+// The digit of a value below 16, in uppercase.
+fn hex_digit(value: u8) -> u8
+    ensures { λ r. ⌜ r ≡ hexDigit value ⌝ }
+{
+    match value {
+        0..=9 => b'0' + value,
+        10..=15 => b'A' + (value - 10),
+        _ => b'?',
+    }
+}
+
+// A house refusal, as H4, and a newline.
+pub fn house_text(house: House) -> [u8; 4]
+    ensures { λ r. ⌜ r ≡ houseText house ⌝ }
+{
+    [b' ', b'H', hex_digit(house_number(house)), b'\n']
+}
+
+// A set of phys as eight hexadecimal digits, a comma and a space.
+pub fn set_text(phys: u32) -> [u8; 11]
+    ensures { λ r. ⌜ r ≡ setText phys ⌝ }
+{
+    [
+        b' ',
+        hex_digit((phys / 0x1000_0000) as u8),
+        hex_digit((phys / 0x100_0000 % 16) as u8),
+        hex_digit((phys / 0x10_0000 % 16) as u8),
+        hex_digit((phys / 0x1_0000 % 16) as u8),
+        hex_digit((phys / 0x1000 % 16) as u8),
+        hex_digit((phys / 0x100 % 16) as u8),
+        hex_digit((phys / 0x10 % 16) as u8),
+        hex_digit((phys % 16) as u8),
+        b',',
+        b' ',
+    ]
+}
+
+// Spells the bytes of a response and gives how long that is.
+fn spell_bytes(response: &[u8], text: &mut [u8]) -> usize
+    requires { ⌜ length (now text) ≡ 4096 ⌝ }
+    ensures { λ r. ⌜ Counts r (now (text .exit)) ⌝ }
+    ensures { λ r. ⌜ take r (now (text .exit)) ≡ responseText (now (response .entry)) ⌝ }
+{
+    let n = within(1364, response);
+    for i in 0..n {
+        text[3 * i] = b' ';
+        text[3 * i + 1] = hex_digit(response[i] / 16);
+        text[3 * i + 2] = hex_digit(response[i] % 16);
+    }
+    text[3 * n] = b'\n';
+    3 * n + 1
+}
+
+// Spells the bytes of a response in hexadecimal at the start of the text, with a newline after the
+// last, and gives how long that is. There is room for the largest response, which has 1,028 bytes;
+// from 1,365 bytes on the rest is left out.
+pub fn spell(response: &[u8], text: &mut [u8; 4096]) -> usize
+    ensures { λ r. ⌜ Counts r (now (text .exit)) ⌝ }
+    ensures { λ r. ⌜ take r (now (text .exit)) ≡ responseText (now (response .entry)) ⌝ }
+{
+    spell_bytes(response, text)
+}
