@@ -52,8 +52,8 @@ fn list_phy(out: &mut [u8], n: u8, kind: u8, phy: u8, numbers: Phy) -> u8
     match kind {
         0x0 => list(out, n, phy, 0x0, numbers.change0),
         0x4 => {
-            let first = list(out, n, phy, 0x1, numbers.expander1);
-            list(out, first, phy, 0x2, numbers.expander2)
+            let so_far = list(out, n, phy, 0x1, numbers.expander1);
+            list(out, so_far, phy, 0x2, numbers.expander2)
         }
         _ => n,
     }

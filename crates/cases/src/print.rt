@@ -5,18 +5,18 @@ use spelling::house_text;
 use spelling::spell;
 
 // Writes that a line can't be read.
-pub fn print_unread() {
+pub(crate) fn print_unread() {
     io::write_all(STDOUT_FILENO, b" ?\n");
 }
 
 // Writes a house refusal.
-pub fn print_house(house: House) {
+pub(crate) fn print_house(house: House) {
     let text = house_text(house);
     io::write_all(STDOUT_FILENO, &text);
 }
 
 // Writes a response.
-pub fn print_response(response: &[u8]) {
+pub(crate) fn print_response(response: &[u8]) {
     let mut text = [0u8; 4096];
     let n = spell(response, &mut text);
     io::write_all(STDOUT_FILENO, &text[..n]);

@@ -82,7 +82,7 @@ fn run_asked(shelf: Shelf, source: u32, frame: &[u8; 1100], length: usize, room:
 }
 
 // `from 8: 40 14 00 ..`, `from 1, buffer of 1027: 40 ..`
-pub fn run_request(shelf: Shelf, line: &[u8], from: Reading) -> Shelf {
+pub(crate) fn run_request(shelf: Shelf, line: &[u8], from: Reading) -> Shelf {
     let asked = read_room(line, read(line, from, b"from #"));
     let mut bytes = [0u8; 1100];
     let frame = read_frame(line, asked, &mut bytes);

@@ -72,7 +72,7 @@ fn run_operation(shelf: Shelf, line: &[u8]) -> Shelf {
 
 // Runs one line and writes it with what it came to; the shelf afterwards. A heading begins with no
 // space, and starts shelf W afresh. An empty line and a remark do nothing.
-pub fn run_line(shelf: Shelf, line: &[u8]) -> Shelf {
+pub(crate) fn run_line(shelf: Shelf, line: &[u8]) -> Shelf {
     io::write_all(STDOUT_FILENO, line);
     let remark = read(line, unread(), b"  - ");
     let is_idle = (line.len() == 0) | remark.fits;

@@ -1,4 +1,4 @@
--- One request in, one reply and the next shelf out. "Every request frame, any source group .. gets its fixed answer."
+-- One request in, one reply and the next shelf out. Demand 1: "Every request frame, any source group .. gets its fixed answer."
 use Prim.Native.Nat.{ℕ}
 use mathlib.Core.Bool.{cond}
 use mathlib.Core.List.{List, _++_}

@@ -80,7 +80,42 @@ fn check_descriptors(frame: &[u8], d: u8) -> FunctionResult
     FunctionResult::Accepted
 }
 
-// The result of a request. The contents of a write are judged only where all before has passed.
+// A 91h. Its contents are judged only where all before has passed.
+fn check_control(
+    changes: u16,
+    expected: u16,
+    there: bool,
+    reached: bool,
+    operation: u8,
+) -> FunctionResult
+    ensures { λ r. ⌜ r ≡ checkWrite (countRight changes expected) there reached (checkOperation operation) ⌝ }
+{
+    let so_far = check_write(changes, expected, there, reached);
+    let FunctionResult::Accepted = so_far else {
+        return so_far;
+    };
+    check_operation(operation)
+}
+
+// A 93h with d descriptors. They are judged only where all before has passed.
+fn check_configure(
+    changes: u16,
+    expected: u16,
+    there: bool,
+    reached: bool,
+    frame: &[u8],
+    d: u8,
+) -> FunctionResult
+    ensures { λ r. ⌜ r ≡ checkWrite (countRight changes expected) there reached (checkDescriptors (now (frame .entry)) d) ⌝ }
+{
+    let so_far = check_write(changes, expected, there, reached);
+    let FunctionResult::Accepted = so_far else {
+        return so_far;
+    };
+    check_descriptors(frame, d)
+}
+
+// The result of a request.
 pub fn result_of(
     changes: u16,
     there: bool,
@@ -104,24 +139,12 @@ pub fn result_of(
             expected,
             phy: _,
             operation,
-        } => {
-            let control = check_write(changes, expected, there, reached);
-            let FunctionResult::Accepted = control else {
-                return control;
-            };
-            check_operation(operation)
-        }
+        } => check_control(changes, expected, there, reached, operation),
         Request::ConfigurePhyEvent {
             expected,
             clear: _,
             phy: _,
             number,
-        } => {
-            let configure = check_write(changes, expected, there, reached);
-            let FunctionResult::Accepted = configure else {
-                return configure;
-            };
-            check_descriptors(frame, number)
-        }
+        } => check_configure(changes, expected, there, reached, frame, number),
     }
 }

@@ -1,4 +1,4 @@
-// What an accepted request does to the shelf: reads nothing, and a write puts its phy back changed.
+// What an accepted request does to the shelf: a read does nothing to it, and a write puts its phy back changed.
 use counters::counts::originate;
 use model::FunctionResult;
 use model::Request;
@@ -39,7 +39,7 @@ fn configure(shelf: Shelf, frame: &[u8], clear: bool, phy: u8, number: u8) -> Sh
     after
 }
 
-// The shelf after an accepted request whose phy, if it has one, is there. "Reads change nothing."
+// The shelf after an accepted request whose phy, if it has one, is there. Reads change nothing.
 fn effect(shelf: Shelf, frame: &[u8], request: Request) -> Shelf
     requires { ⌜ phyOf request < 24 ⌝ }
     ensures { λ r. ⌜ r ≡ effect shelf (now (frame .entry)) request ⌝ }

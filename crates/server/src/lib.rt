@@ -1,9 +1,9 @@
 // The server: one request in, one answer and the next shelf out.
 //
 // Data flows one way. The frame is judged (crate `gate`); the judged request is decided from pieces of
-// the shelf (`decide`, `results`); where it is accepted it is answered (`respond`, `broadcast`) and
-// carried out (`effect`). `serve` is proved equal to `served` of the model, and what the lent buffer
-// then holds to `lentAfter`. No public function asks anything of its caller.
+// the shelf (`decide`, crate `results`); the result draws the response (`respond`, crate `broadcasts`)
+// and, where it is accepted, the request is carried out (`effect`). `serve` is proved equal to `served`
+// of the model, and what the lent buffer then holds to `lentAfter`. It asks nothing of its caller.
 mod decide;
 mod effect;
 mod respond;

@@ -66,8 +66,8 @@ fn spell_bytes(response: &[u8], text: &mut [u8]) -> usize
 }
 
 // Spells the bytes of a response in hexadecimal at the start of the text, with a newline after the
-// last, and gives how long that is. There is room for the largest response, which has 1,028 bytes;
-// from 1,365 bytes on the rest is left out.
+// last, and gives how long that is. There is room for any response, which has at most 400 bytes; from
+// 1,365 bytes on the rest is left out.
 pub fn spell(response: &[u8], text: &mut [u8; 4096]) -> usize
     ensures { λ r. ⌜ Counts r (now (text .exit)) ⌝ }
     ensures { λ r. ⌜ take r (now (text .exit)) ≡ responseText (now (response .entry)) ⌝ }
