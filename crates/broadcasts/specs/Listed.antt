@@ -3,12 +3,10 @@ use Prim.Native.Nat.{ℕ, _+_, _*_}
 use mathlib.Core.Path.{_≡_}
 use mathlib.Core.Bool.{cond}
 use mathlib.Core.List.{List, []}
-use lib.Dec.{ltb}
 use lib.ListN.{length}
 use lib.Seq.{sets}
 use Rattle.model.specs.declared.Phy.{Phy}
-use Rattle.model.specs.declared.Shelf.{Shelf}
-use Rattle.model.specs.Reply.{Broadcast, phyListed, broadcastBytes, reportBroadcast}
+use Rattle.model.specs.Reply.{Broadcast, phyListed, broadcastBytes}
 use Rattle.model.specs.Zone.{rowReaches}
 
 -- "A source sees FFh and the phys it reaches": what a source with this row sees of one phy.
@@ -22,7 +20,3 @@ listedFrom out n bs = sets out (8 + 8 * n) (broadcastBytes bs)
 -- These broadcasts are listed from descriptor n on: how many descriptors there are then, and what the buffer then holds.
 abbrev pub Lists : List ℕ → ℕ → List Broadcast → ℕ → List ℕ → Type 0
 Lists out n bs number after = (number ≡ n + length bs) × (after ≡ listedFrom out n bs)
-
--- What a 06h sends into a buffer of this length: its response, or nothing where the buffer is shorter than 1,028 bytes.
-abbrev pub sentBroadcast : Shelf → ℕ → ℕ → ℕ → List ℕ
-sentBroadcast s g kind room = cond (ltb room 1028) [] (reportBroadcast s g kind)

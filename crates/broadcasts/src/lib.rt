@@ -7,14 +7,15 @@ use model::Phy;
 use model::Shelf;
 use replies::fixed::broadcast_descriptor;
 use replies::wire::two;
+use shelf::phys::phy_at;
 use shelf::phys::phy_number;
 use shelf::table::row;
 ghost use mathlib.Core.Path.{_≡_};
 ghost use Prim.Native.Nat.{_+_, _*_, _≤_};
 ghost use lib.ListN.{length};
-ghost use Rattle.model.specs.Reply.{listed, deviceListed, phyListed, broadcasts, broadcastHead};
-ghost use Rattle.broadcasts.specs.Listed.{seenListed, Lists, sentBroadcast};
-ghost use Rattle.replies.specs.Sent.{Sent};
+ghost use Rattle.model.specs.Reply.{listed, deviceListed, phyListed, broadcasts, broadcastHead, reportBroadcast};
+ghost use Rattle.broadcasts.specs.Listed.{seenListed, Lists};
+ghost use Rattle.replies.specs.Sent.{Sent, ifRoom};
 
 // One count of the list, as descriptor n, unless it is 0: "Every non-zero count". Gives how many
 // descriptors there are now.
@@ -76,12 +77,13 @@ fn list_all(shelf: Shelf, source: u32, kind: u8, out: &mut [u8]) -> u8
     requires { ⌜ 1028 ≤ length (now out) ⌝ }
     ensures { λ r. ⌜ Lists (now (out .entry)) 0 (broadcasts shelf source kind) r (now (out .exit)) ⌝ }
 {
-    let row = row(shelf.table, source);
+    let table = shelf.table;
+    let phys = shelf.phys;
+    let row = row(table, source);
     let number = phy_number(shelf.number);
     let mut n = list_device(out, kind, shelf.expander3, shelf.ses0);
     for p in 0..number {
-        let numbers = shelf.phys[p as usize];
-        n = list_seen(out, n, row, kind, p as u8, numbers);
+        n = list_seen(out, n, row, kind, p as u8, phy_at(phys, p));
     }
     n
 }
@@ -98,7 +100,7 @@ fn broadcast_head(changes: u16, kind: u8, n: u8) -> [u8; 8]
 // The response to 06h, in the lent buffer. Gives its length. Into a buffer shorter than 1,028 bytes nothing
 // is sent.
 pub fn report_broadcast(shelf: Shelf, source: u32, kind: u8, out: &mut [u8]) -> usize
-    ensures { λ r. ⌜ Sent (now (out .entry)) (sentBroadcast shelf source kind (length (now (out .entry)))) r (now (out .exit)) ⌝ }
+    ensures { λ r. ⌜ Sent (now (out .entry)) (ifRoom (now (out .entry)) (reportBroadcast shelf source kind)) r (now (out .exit)) ⌝ }
 {
     if out.len() < 1028 {
         return 0;

@@ -22,26 +22,35 @@ phyNumber s = min (s .number) 24
 abbrev pub exists : Shelf → ℕ → Bool
 exists s p = ltb p (phyNumber s)
 
--- what stands where there is no phy
-abbrev pub noPhy : Phy
-noPhy =
+-- ---- One phy
+
+abbrev pub monitor : ℕ → ℕ → ℕ → Monitor
+monitor source value threshold = record { source = source; value = value; threshold = threshold }
+
+-- A start: "All phys are enabled, .. every other number is 0, and every monitor's source is 00h."
+abbrev pub freshMonitor : Monitor
+freshMonitor = monitor 0x00 0 0
+
+abbrev pub freshPhy : ℕ → Phy
+freshPhy g =
     record {
-      group = 0;
-      enabled = false;
-      errors = [];
-      monitors = [];
+      group = g;
+      enabled = true;
+      errors = replicate 4 0;
+      monitors = replicate 4 freshMonitor;
       change0 = 0;
       expander1 = 0;
       expander2 = 0;
     }
 
+-- Where there is no phy stands a fresh one of group 0.
+abbrev pub noPhy : Phy
+noPhy = freshPhy 0
+
 abbrev pub phyAt : Shelf → ℕ → Phy
 phyAt s p = getD (s .phys) p noPhy
 
 -- ---- Changing a part: everything that is not named stays as it was
-
-abbrev pub monitor : ℕ → ℕ → ℕ → Monitor
-monitor source value threshold = record { source = source; value = value; threshold = threshold }
 
 -- a phy with other numbers, in the group that it had
 abbrev pub phyWith : Phy → Bool → List ℕ → List Monitor → ℕ → ℕ → ℕ → Phy
@@ -78,22 +87,6 @@ abbrev pub putDevice : Shelf → ℕ → ℕ → Shelf
 putDevice s expander3 ses0 = shelfWith s (s .phys) (s .changes) expander3 ses0
 
 -- ---- A start
-
--- "All phys are enabled, .. every other number is 0, and every monitor's source is 00h."
-abbrev pub freshMonitor : Monitor
-freshMonitor = monitor 0x00 0 0
-
-abbrev pub freshPhy : ℕ → Phy
-freshPhy g =
-    record {
-      group = g;
-      enabled = true;
-      errors = replicate 4 0;
-      monitors = replicate 4 freshMonitor;
-      change0 = 0;
-      expander1 = 0;
-      expander2 = 0;
-    }
 
 -- "24 groups (those past the phy number are ignored)": places past the phy number hold a fresh phy of group 0.
 abbrev pub startGroup : ℕ → List ℕ → ℕ → ℕ

@@ -13,6 +13,8 @@ use model::Outcome;
 use model::Shelf;
 use model::Taken;
 use shelf::phys::exists;
+use shelf::phys::phy_at;
+use shelf::phys::put;
 ghost use mathlib.Core.Path.{_≡_};
 ghost use Rattle.model.specs.Reports.{amountTooLarge, eventTaken, event, linkChange};
 ghost use Rattle.model.specs.Reports.{reducedFunctionality, sesNotice};
@@ -48,13 +50,11 @@ pub fn event(shelf: Shelf, phy: u32, source: u32, amount: u32) -> Outcome
     let Taken::Done = taken else {
         return Outcome { taken, shelf };
     };
-    let p = phy as usize;
-    let before = shelf.phys[p];
-    let mut after = shelf;
-    after.phys[p] = event_on(source, amount, before);
+    let phys = shelf.phys;
+    let after = event_on(source, amount, phy_at(phys, phy));
     Outcome {
         taken: Taken::Done,
-        shelf: after,
+        shelf: put(shelf, phy, after, shelf.changes),
     }
 }
 
@@ -69,14 +69,12 @@ pub fn link_change(shelf: Shelf, phy: u32) -> Outcome
             shelf,
         };
     }
-    let p = phy as usize;
-    let before = shelf.phys[p];
-    let mut after = shelf;
-    after.phys[p] = change_on(before.enabled, before);
-    after.changes = originate(shelf.changes);
+    let phys = shelf.phys;
+    let before = phy_at(phys, phy);
+    let after = change_on(before.enabled, before);
     Outcome {
         taken: Taken::Done,
-        shelf: after,
+        shelf: put(shelf, phy, after, originate(shelf.changes)),
     }
 }
 

@@ -1,13 +1,12 @@
 -- What `served` and `lentAfter` come to, way by way through `serve`. Assumes nothing.
 use Prim.Native.Nat.{ℕ, _≤_, _<_}
 use native.Mathlib.Omega.{arith}
-use mathlib.Core.Path.{_≡_, refl, ap, subst⁻¹, _∙_}
+use mathlib.Core.Path.{_≡_, refl, ap, _∙_}
 use mathlib.Core.Bool.{Bool, true, false, cond}
 use mathlib.Core.Logic.{⊎-elim}
 use mathlib.Core.List.{List, [], _∷_}
 use borrow.Author.Tests.{lt-ltb, le-ltb}
 use denote.Enum.Declared.{tagOf}
-use lib.Dec.{T}
 use lib.ListN.{length}
 use types.Run.{OneOf}
 use Rattle.model.specs.declared.FunctionResult.{FunctionResult}
@@ -15,21 +14,15 @@ use Rattle.model.specs.declared.House.the-variants.{SourceGroup, ShortBuffer}
 use Rattle.model.specs.declared.Judged.{Judged}
 use Rattle.model.specs.declared.Judged.the-variants.{Asked, NoFrame, Fails}
 use Rattle.model.specs.declared.Request.{Request}
-use Rattle.model.specs.declared.Request.the-variants.{ReportGeneral, ReportManufacturer, ReportBroadcast}
-use Rattle.model.specs.declared.Request.the-variants.{ReportPhyErrorLog, ReportPhyEvent, PhyControl}
-use Rattle.model.specs.declared.Request.the-variants.{ConfigurePhyEvent}
 use Rattle.model.specs.declared.Served.{Served}
 use Rattle.model.specs.declared.Shelf.{Shelf}
 use Rattle.model.specs.Reply.{failed, respond}
 use Rattle.model.specs.Request.{functionOf, judge}
 use Rattle.model.specs.Results.{resultCode, accepted, decide}
 use Rattle.model.specs.Server.{Handled, Sends, refuse, fail, conclude, handleJudged, handle, answer, lent, served, lentAfter}
-use Rattle.model.specs.Shelf.{exists}
 use Rattle.model.specs.Writes.{effect}
 use Rattle.model.proofs.Judged.{the-type}
-use Rattle.model.proofs.Laws.Checks.{passed-11, passed-14, passed-91, passed-93}
-use Rattle.model.proofs.Plain.Reach.{exists-iff}
-use Rattle.server.specs.Serving.{judgedReply, drawn, leaves, InArray}
+use Rattle.server.specs.Serving.{judgedReply, drawn, leaves}
 
 module _ (s : Shelf) (g : ℕ) (frame out : List ℕ) where
   -- both halves of what `serve` promises
@@ -92,17 +85,3 @@ module _ (s : Shelf) (g : ℕ) (frame out : List ℕ) where
     serves-asked request asks =
         serves _
         (judged-handled ∙ ap (handleJudged s g frame) asks ∙ concluded request (decide s g frame request))
-
--- the phy of an accepted request, if it has one, is in the array
-module _ (s : Shelf) (g : ℕ) (frame : List ℕ) where
-  in-array : (p : ℕ) → exists s p ≡ true → p < 24
-  in-array p there = exists-iff s p .0 (subst⁻¹ T there tt) .1
-
-  pub phy-there : (request : Request) → InArray request (decide s g frame request)
-  phy-there ReportGeneral e = omega arith
-  phy-there ReportManufacturer e = omega arith
-  phy-there (ReportBroadcast kind) e = omega arith
-  phy-there (ReportPhyErrorLog p) e = in-array p (passed-11 s g frame p e .0)
-  phy-there (ReportPhyEvent p) e = in-array p (passed-14 s g frame p e .0)
-  phy-there (PhyControl expected p operation) e = in-array p (passed-91 s g frame expected p operation e .0)
-  phy-there (ConfigurePhyEvent expected clear p d) e = in-array p (passed-93 s g frame expected p d clear e .0)

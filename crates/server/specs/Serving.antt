@@ -1,7 +1,6 @@
 -- Steps of a request: what the judgement of its frame alone already answers, and what its result draws.
-use Prim.Native.Nat.{ℕ, _<_}
-use mathlib.Core.Path.{_≡_}
-use mathlib.Core.Bool.{true, cond}
+use Prim.Native.Nat.{ℕ}
+use mathlib.Core.Bool.{cond}
 use mathlib.Core.List.{List, []}
 use Rattle.model.specs.declared.FunctionResult.{FunctionResult}
 use Rattle.model.specs.declared.Judged.{Judged}
@@ -9,7 +8,6 @@ use Rattle.model.specs.declared.Judged.the-variants.{Asked, NoFrame, Fails}
 use Rattle.model.specs.declared.Request.{Request}
 use Rattle.model.specs.declared.Shelf.{Shelf}
 use Rattle.model.specs.Reply.{failed, respond}
-use Rattle.model.specs.Request.{phyOf}
 use Rattle.model.specs.Results.{resultCode, accepted}
 use Rattle.model.specs.Server.{Reply, Refuses, Sends}
 use Rattle.model.specs.Writes.{effect}
@@ -27,7 +25,3 @@ drawn s g request function result = cond (accepted result) (respond s g request)
 -- The shelf that a result leaves: the full effect, or none at all.
 abbrev pub leaves : Shelf → List ℕ → Request → FunctionResult → Shelf
 leaves s frame request result = cond (accepted result) (effect s frame request) s
-
--- An accepted request's phy, if it has one, is in the array.
-abbrev pub InArray : Request → FunctionResult → Type 0
-InArray request result = accepted result ≡ true → phyOf request < 24

@@ -1,17 +1,15 @@
 // The server: one request in, one answer and the next shelf out.
 //
 // Data flows one way. The frame is judged (crate `gate`); the judged request is decided from pieces of
-// the shelf (`decide`, crate `results`); the result draws the response (`respond`, crate `broadcasts`)
-// and, where it is accepted, the request is carried out (`effect`). `serve` is proved equal to `served`
-// of the model, and what the lent buffer then holds to `lentAfter`. It asks nothing of its caller.
+// the shelf (`decide`, crate `results`); the result draws the response (crate `responses`) and, where it
+// is accepted, has its effect on the shelf (crate `effects`). `serve` is proved equal to `served` of the
+// model, and what the lent buffer then holds to `lentAfter`. It asks nothing of its caller.
+mod conclude;
 mod decide;
-mod effect;
-mod respond;
 
+use crate::conclude::next_shelf;
+use crate::conclude::reply;
 use crate::decide::decide;
-use crate::effect::next_shelf;
-use crate::respond::fail;
-use crate::respond::reply;
 use gate::bytes::byte_at;
 use gate::frame::judge;
 use model::Answer;
@@ -19,6 +17,7 @@ use model::House;
 use model::Judged;
 use model::Served;
 use model::Shelf;
+use responses::send_result;
 ghost use mathlib.Core.Path.{_≡_};
 ghost use Prim.Native.Nat.{_≤_};
 ghost use lib.ListN.{length};
@@ -34,7 +33,7 @@ fn turned_away(judged: Judged, function: u8, out: &mut [u8]) -> Answer
     match judged {
         Judged::Asked(_) => Answer::Response(0),
         Judged::NoFrame(house) => Answer::NoResponse(house),
-        Judged::Fails(result) => Answer::Response(fail(function, result, out)),
+        Judged::Fails(result) => Answer::Response(send_result(function, result, out)),
     }
 }
 

@@ -1,5 +1,6 @@
 // "A reach query gives, for a source group, the set of phys it reaches as a 32-bit number and how
 // many they are; a group above 31 draws H4."
+use crate::phys::phy_at;
 use crate::phys::phy_number;
 use crate::table::row;
 use gate::zone::smp_row_reaches;
@@ -27,11 +28,13 @@ fn phy_bit(row: u32, group: u32, p: u32) -> u32
 fn reach_set(shelf: Shelf, source: u32) -> u32
     ensures { λ r. ⌜ r ≡ reachSet shelf source ⌝ }
 {
-    let row = row(shelf.table, source);
+    let table = shelf.table;
+    let phys = shelf.phys;
+    let row = row(table, source);
     let number = phy_number(shelf.number);
     let mut set = 0;
     for p in 0..number {
-        let phy = shelf.phys[p as usize];
+        let phy = phy_at(phys, p);
         set = set + phy_bit(row, phy.group, p);
     }
     set

@@ -1,35 +1,15 @@
 // "A start takes phy number, 24 groups (those past the phy number are ignored), table and identifier."
+use crate::phys::fresh_phy;
 use crate::table::legal_table;
 use model::House;
-use model::Monitor;
 use model::Outcome;
 use model::Phy;
 use model::Shelf;
 use model::Taken;
 ghost use mathlib.Core.Path.{_≡_};
 ghost use Prim.Native.Nat.{_≤_, _<_};
-ghost use Rattle.model.specs.Shelf.{freshPhy, startGroup, freshPhys, freshShelf, noShelf};
+ghost use Rattle.model.specs.Shelf.{startGroup, freshPhys, freshShelf, noShelf};
 ghost use Rattle.model.specs.Shelf.{groupsFit, startTaken, start};
-
-// "All phys are enabled, .. every other number is 0, and every monitor's source is 00h."
-fn fresh_phy(group: u32) -> Phy
-    ensures { λ r. ⌜ r ≡ freshPhy group ⌝ }
-{
-    let fresh = Monitor {
-        source: 0x00,
-        value: 0,
-        threshold: 0,
-    };
-    Phy {
-        group,
-        enabled: true,
-        errors: [0; 4],
-        monitors: [fresh; 4],
-        change0: 0,
-        expander1: 0,
-        expander2: 0,
-    }
-}
 
 // "24 groups (those past the phy number are ignored)": past the phy number it is group 0.
 fn start_group(number: u32, groups: [u32; 24], p: u32) -> u32

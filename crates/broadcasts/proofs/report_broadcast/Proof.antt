@@ -1,18 +1,18 @@
 -- `broadcasts::report_broadcast` meets its contract: the list, and then its head in front of it. Assumes nothing.
 use borrow.Author.Needs.{needs}
 use native.Mathlib.Omega.{arith}
-use mathlib.Core.Path.{_≡_, refl, ap, _∙_}
-use borrow.Author.Tests.{lt-ltb, le-ltb}
+use mathlib.Core.Path.{_≡_, ap, _∙_}
 use lib.ListN.{length, length-append}
 use Rattle.model.specs.Reply.{broadcasts, broadcastHead, reportBroadcast}
 use Rattle.model.proofs.Demands.Frames.{broadcasts-few}
 use Rattle.model.proofs.Plain.Reply.{broadcast-bytes-length}
+use Rattle.replies.proofs.Sending.{none-sent, has-room}
 use Rattle.broadcasts.proofs.Listing.{headed}
 use Rattle.broadcasts.proofs.report_broadcast.Statement.{statement}
 use Rattle.broadcasts.proofs.report_broadcast.Tie as tie
 
 returns : tie.Need-returns
-returns c = rw (lt-ltb (length (c .before .before .args .out .now)) 1028 (omega arith)) (refl, refl)
+returns c = none-sent (c .before .before .args .out .now) _ (omega arith)
 
 list-all-requires : tie.Need-list-all-requires
 list-all-requires c κs = search needs
@@ -52,7 +52,7 @@ returns-2 c =
     let number : walked .list-all .result ≡ length bs = omega (arith, walked .list-all .ensures .0) in
     let head = made .broadcast-head .ensures ∙ ap (broadcastHead (a .shelf .changes) (a .kind)) number in
     let few = broadcasts-few (a .shelf) (a .source) (a .kind) in
-    rw (le-ltb (length (a .out .now)) 1028 (omega arith)) (
+    rw (has-room (a .out .now) (reportBroadcast (a .shelf) (a .source) (a .kind)) (omega arith)) (
       simp length-append (omega (arith, number, broadcast-bytes-length bs)),
       rw (
         copied .copy .ensures .1,

@@ -28,11 +28,11 @@ use Rattle.model.specs.Reply.{broadcastBytes, reportBroadcast, respond}
 use Rattle.model.specs.Request.{functionOf, known, asked}
 use Rattle.model.specs.Results.{resultCode}
 use Rattle.model.specs.Server.{Sends, handle}
-use Rattle.model.specs.Shelf.{phyNumber, noPhy, phyAt}
+use Rattle.model.specs.Shelf.{phyNumber, noPhy, phyAt, freshMonitor}
 use Rattle.model.proofs.Demands.Invariant.{BytesFit, Fits}
 use Rattle.model.proofs.Laws.Handled.{verdict, sent-all, accepted-decided}
 use Rattle.model.proofs.Laws.Join.{join-few}
-use Rattle.model.proofs.Laws.Places.{All, all-each, each-all, cut-each, sets-each, sets-before}
+use Rattle.model.proofs.Laws.Places.{All, all-each, each-all, cut-each, sets-each, sets-before, replicate-each}
 use Rattle.model.proofs.Laws.Tests.{cond-both}
 use Rattle.model.proofs.Plain.Reply.{broadcast-bytes-length, listed-iff, kept-small}
 use Rattle.model.proofs.Plain.Request.{by-function}
@@ -200,7 +200,9 @@ source-small s fits p i = go (ltb p 24) refl
   where
     go : (b : Bool) → ltb p 24 ≡ b → Small (monitorAt (phyAt s p) i .source)
     go true e = fits .phys p (ltb-true p 24 e) .monitors i .source
-    go false e = rw (List·getD-eq-default (s .phys) noPhy {n = p} (omega (arith, ltb-false p 24 e))) zero-le
+    go false e =
+        rw (List·getD-eq-default (s .phys) noPhy {n = p} (omega (arith, ltb-false p 24 e)))
+        (replicate-each (λ m. Small (m .source)) freshMonitor 4 zero-le i)
 
 broadcast-bytes-fit : (bs : List Broadcast) → ((b : Broadcast) → List·Memᴰ b bs → Small (b .phy) × (b .reason < 4))
     → BytesFit (broadcastBytes bs)

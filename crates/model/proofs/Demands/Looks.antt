@@ -15,15 +15,15 @@ use Rattle.model.specs.Zone.{row, rowReaches}
 use Rattle.model.proofs.Laws.PhyChanges.{Inner}
 use Rattle.model.proofs.Laws.Tests.{is-true}
 
--- A phy as a row sees it: whole where the row reaches it. Where it does not, its numbers are not seen; its group and whether it is
+-- A phy as a row sees it: whole where the row reaches it. Where it does not, its numbers are not seen (0 stands for them); its group and whether it is
 -- enabled stay, since a disable moves the change count, which all may read, only if the phy was enabled.
 abbrev pub seen : ℕ → Phy → Phy
 seen r x =
     record {
       group = x .group;
       enabled = x .enabled;
-      errors = cond (rowReaches r (x .group)) (x .errors) [];
-      monitors = cond (rowReaches r (x .group)) (x .monitors) [];
+      errors = cond (rowReaches r (x .group)) (x .errors) (noPhy .errors);
+      monitors = cond (rowReaches r (x .group)) (x .monitors) (noPhy .monitors);
       change0 = cond (rowReaches r (x .group)) (x .change0) 0;
       expander1 = cond (rowReaches r (x .group)) (x .expander1) 0;
       expander2 = cond (rowReaches r (x .group)) (x .expander2) 0;
@@ -38,7 +38,15 @@ looks g s = shelfWith s (map (seen (row (s .table) g)) (s .phys)) (s .changes) (
 -- what is left of a phy that is out of reach
 abbrev hidden : ℕ → Bool → Phy
 hidden group enabled =
-    record { group = group; enabled = enabled; errors = []; monitors = []; change0 = 0; expander1 = 0; expander2 = 0 }
+    record {
+      group = group;
+      enabled = enabled;
+      errors = noPhy .errors;
+      monitors = noPhy .monitors;
+      change0 = 0;
+      expander1 = 0;
+      expander2 = 0;
+    }
 
 module _ (r : ℕ) where
   pub seen-reached : (x : Phy) → rowReaches r (x .group) ≡ true → seen r x ≡ x
@@ -53,9 +61,9 @@ module _ (r : ℕ) where
       go : (b : Bool)
           → record {
             group = 0;
-            enabled = false;
-            errors = cond b [] [];
-            monitors = cond b [] [];
+            enabled = true;
+            errors = cond b (noPhy .errors) (noPhy .errors);
+            monitors = cond b (noPhy .monitors) (noPhy .monitors);
             change0 = cond b 0 0;
             expander1 = cond b 0 0;
             expander2 = cond b 0 0;

@@ -5,8 +5,8 @@ use native.Mathlib.Omega.{arith}
 use mathlib.Core.Path.{sym, subst, _∙_}
 use mathlib.Core.List.{[], _∷_}
 use Rattle.model.proofs.Judged.{the-type}
-use Rattle.server.specs.Serving.{InArray}
-use Rattle.server.proofs.Handling.{serves-H4, serves-H5, serves-judged, serves-asked, phy-there}
+use Rattle.replies.proofs.Sending.{has-room}
+use Rattle.server.proofs.Handling.{serves-H4, serves-H5, serves-judged, serves-asked}
 use Rattle.server.proofs.serve.Statement.{statement}
 use Rattle.server.proofs.serve.Tie as tie
 use denote.Enum.Declared.{tagOf}
@@ -50,19 +50,11 @@ returns-3 c =
 decide-requires : tie.Need-decide-requires
 decide-requires c κs = search needs
 
--- the phy of an accepted request is in the array
-there : (c : tie.After-decide) → InArray (c .before .before .judged .given .0 .0) (c .decide .result)
-there c =
-    let asked = c .before .before in
-    let a = asked .before .before .before .before .before .before .before .before .args in
-    let request = asked .judged .given .0 .0 in
-    rw (c .decide .ensures) (phy-there (a .shelf) (a .source) (a .frame .now) request)
-
 reply-requires : tie.Need-reply-requires
-reply-requires c κs = (omega arith, there (c .before))
+reply-requires c κs = search needs
 
 next-shelf-requires : tie.Need-next-shelf-requires
-next-shelf-requires c κs = there (c .before .before .before .before)
+next-shelf-requires c κs = search needs
 
 same-length-2 : tie.Need-same-length-2
 same-length-2 c = search needs
@@ -75,9 +67,10 @@ returns-4 c =
     let told = asked .before .before in
     let a = told .before .before .before .before .before .before .args in
     let asks = sym (told .judge .ensures) ∙ asked .judged .given .1 in
+    let all = rw (has-room (a .out .now) _ (omega arith)) at (sent .reply .ensures) in
     rw (
-      sent .reply .ensures .0,
-      sent .reply .ensures .1,
+      all .0,
+      all .1,
       c .next-shelf .ensures,
       decided .decide .ensures,
       told .before .byte-at .ensures,

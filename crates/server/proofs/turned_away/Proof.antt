@@ -1,7 +1,9 @@
 -- `server::turned_away` meets its contract, judgement by judgement. Assumes nothing.
 use borrow.Author.Needs.{needs}
+use native.Mathlib.Omega.{arith}
 use mathlib.Core.Path.{refl, ap}
 use Rattle.model.specs.declared.Answer.the-variants.{Response}
+use Rattle.replies.proofs.Sending.{has-room}
 use Rattle.server.proofs.turned_away.Statement.{statement}
 use Rattle.server.proofs.turned_away.Tie as tie
 
@@ -14,8 +16,8 @@ enum-known-judged c = search needs
 enum-known-judged-2 : tie.Need-enum-known-judged-2
 enum-known-judged-2 c = search needs
 
-fail-requires : tie.Need-fail-requires
-fail-requires c κs = search needs
+send-result-requires : tie.Need-send-result-requires
+send-result-requires c κs = search needs
 
 returns : tie.Need-returns
 returns c = rw (c .enum-told .given .1) (refl, refl)
@@ -29,7 +31,10 @@ same-length c = search needs
 returns-3 : tie.Need-returns-3
 returns-3 c =
     let sent = c .before .before in
-    rw (sent .before .before .before .judged2 .given .1) (ap Response (sent .fail .ensures .0), sent .fail .ensures .1)
+    let arm = sent .before .before .before in
+    let a = arm .before .before .before .args in
+    let all = rw (has-room (a .out .now) _ (omega arith)) at (sent .send-result .ensures) in
+    rw (arm .judged2 .given .1) (ap Response (all .0), all .1)
 
 pub turned-away-spec : {M : Type 1} → statement M
 turned-away-spec =
@@ -38,7 +43,7 @@ turned-away-spec =
     enum-told
     enum-known-judged
     enum-known-judged-2
-    fail-requires
+    send-result-requires
     returns
     returns-2
     same-length

@@ -7,17 +7,17 @@ use Rattle.server.proofs.decide.decide.Tie as tie
 phy-of-requires : tie.Need-phy-of-requires
 phy-of-requires c κs = search needs
 
-cast-exists : tie.Need-cast-exists
-cast-exists c = search needs
+cast-phy : tie.Need-cast-phy
+cast-phy c = search needs
 
 exists-requires : tie.Need-exists-requires
 exists-requires c κs = search needs
 
+phy-at-requires : tie.Need-phy-at-requires
+phy-at-requires c κs = search needs
+
 row-requires : tie.Need-row-requires
 row-requires c κs = search needs
-
-group-of-requires : tie.Need-group-of-requires
-group-of-requires c κs = search needs
 
 smp-row-reaches-requires : tie.Need-smp-row-reaches-requires
 smp-row-reaches-requires c κs = search needs
@@ -29,13 +29,14 @@ returns : tie.Need-returns
 unfolding decide
 returns c =
     let reached = c .before in
-    let group = reached .before in
-    let there = group .before .before .before .before in
+    let rowed = reached .before in
+    let read = rowed .before in
+    let there = read .before .before .before in
     rw (
       c .result-of .ensures,
       reached .smp-row-reaches .ensures,
-      group .group-of .ensures,
-      group .before .row .ensures,
+      rowed .row .ensures,
+      read .phy-at .ensures,
       there .exists .ensures,
       there .before .phy-of .ensures,
     )
@@ -45,10 +46,10 @@ decide-spec =
     tie.close
     (tie.spec
     phy-of-requires
-    cast-exists
+    cast-phy
     exists-requires
+    phy-at-requires
     row-requires
-    group-of-requires
     smp-row-reaches-requires
     result-of-requires
     returns)

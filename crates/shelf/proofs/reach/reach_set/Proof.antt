@@ -3,11 +3,16 @@
 use Prim.Native.Nat.{ℕ, _+_, _-_, _^_, _≤_}
 use native.Mathlib.Numerals.{add-one}
 use native.Mathlib.Omega.{arith}
-use mathlib.Core.Path.{_≡_}
+use mathlib.Core.Path.{_≡_, _∙_}
 use mathlib.Core.Bool.{Bool, cond}
+use mathlib.Core.List.{List}
+use lib.ListN.{getD}
 use borrow.Author.Needs.{needs}
-use Rattle.model.specs.Reach.{reaches, reachSet}
+use Rattle.model.specs.declared.Phy.{Phy}
+use Rattle.model.specs.Reach.{reachSet}
+use Rattle.model.specs.Shelf.{noPhy}
 use Rattle.model.specs.Tests.{sumBelow}
+use Rattle.model.specs.Zone.{rowReaches}
 use Rattle.model.proofs.Laws.Bits.{powers, powers-fit}
 use Rattle.shelf.proofs.reach.reach_set.Statement.{statement}
 use Rattle.shelf.proofs.reach.reach_set.Tie as tie
@@ -17,11 +22,15 @@ powers-more : (n : ℕ) (test : ℕ → Bool) → powers (n + 1) test ≡ powers
 unfolding sumBelow
 powers-more n test = rw add-one
 
+-- phy p is one that the row reaches
+abbrev reached : ℕ → List Phy → ℕ → Bool
+reached row phys p = rowReaches row (getD phys p noPhy .group)
+
 abbrev Inv-loop : tie.InvT-loop
-Inv-loop source shelf row number set₀ p₀ set p = (p ≤ number) × (set ≡ powers p (reaches shelf source))
+Inv-loop source phys row number set₀ p₀ set p = (p ≤ number) × (set ≡ powers p (reached row phys))
 
 abbrev μ-loop : tie.MeasureT-loop
-μ-loop source shelf row number set₀ p₀ set p = 24 - p
+μ-loop source phys row number set₀ p₀ set p = 24 - p
 
 row-requires : tie.Need-row-requires Inv-loop μ-loop
 row-requires c κs = search needs
@@ -33,32 +42,26 @@ loop-holds : tie.Need-loop-holds Inv-loop μ-loop
 unfolding sumBelow
 loop-holds c = search needs
 
-cast-phy : tie.Need-cast-phy Inv-loop μ-loop
-cast-phy c = search needs
-
-mul-phy : tie.Need-mul-phy Inv-loop μ-loop
-mul-phy c = search needs
-
-element-copy-out-phy : tie.Need-element-copy-out-phy Inv-loop μ-loop
-element-copy-out-phy c = search needs
+phy-at-requires : tie.Need-phy-at-requires Inv-loop μ-loop
+phy-at-requires c κs = search needs
 
 phy-bit-requires : tie.Need-phy-bit-requires Inv-loop μ-loop
 phy-bit-requires c κs = search needs
 
--- the phys that the source reaches
-abbrev reached : tie.After-phy-bit Inv-loop μ-loop → ℕ → Bool
-reached c =
-    let args = c .before .before .before .before .before .before .before .args in
-    reaches (args .t1) (args .source)
+-- the phys that the source's row reaches
+abbrev these : tie.After-phy-bit Inv-loop μ-loop → ℕ → Bool
+these c =
+    let counted = c .before .before .before .before in
+    reached (counted .before .row .result) (counted .before .before .before .before .args .shelf .phys)
 
 -- the set with what this turn adds to it
 added : (c : tie.After-phy-bit Inv-loop μ-loop)
     → c .before .before .before .loop .set + c .phy-bit .result
-    ≡ powers (c .before .before .before .loop .p + 1) (reached c)
-added c = cc (powers-more (c .before .before .before .loop .p) (reached c))
+    ≡ powers (c .before .before .before .loop .p + 1) (these c)
+added c = cc (powers-more (c .before .before .before .loop .p) (these c))
 
 add-set : tie.Need-add-set Inv-loop μ-loop
-add-set c = rw (added c) (record { fits = powers-fit 32 _ (reached c) (omega arith) })
+add-set c = rw (added c) (record { fits = powers-fit 32 _ (these c) (omega arith) })
 
 add-p : tie.Need-add-p Inv-loop μ-loop
 add-p c = search needs
@@ -72,8 +75,9 @@ loop-again c = (omega arith, added c)
 returns : tie.Need-returns Inv-loop μ-loop
 unfolding reachSet
 returns c =
-    let done : c .before .loop .p ≡ c .before .before .phy-number .result = omega arith in
-    cc
+    let counted = c .before .before in
+    let done : c .before .loop .p ≡ counted .phy-number .result = omega arith in
+    (rw done at (c .before .loop .inv .1)) ∙ rw (counted .phy-number .ensures, counted .before .row .ensures)
 
 pub reach-set-spec : {M : Type 1} → statement M
 reach-set-spec =
@@ -84,9 +88,7 @@ reach-set-spec =
     row-requires
     phy-number-requires
     loop-holds
-    cast-phy
-    mul-phy
-    element-copy-out-phy
+    phy-at-requires
     phy-bit-requires
     add-set
     add-p

@@ -1,11 +1,8 @@
--- `server::effect::effect` meets its contract, request by request. Assumes nothing.
+-- `effects::effect` meets its contract, request by request. Assumes nothing.
 use borrow.Author.Needs.{needs}
-use Prim.Native.Nat.{_<_}
-use mathlib.Core.Path.{subst}
-use Rattle.model.specs.Request.{phyOf}
 use Rattle.model.specs.Writes.{effect}
-use Rattle.server.proofs.effect.effect.Statement.{statement}
-use Rattle.server.proofs.effect.effect.Tie as tie
+use Rattle.effects.proofs.effect.Statement.{statement}
+use Rattle.effects.proofs.effect.Tie as tie
 
 enum-told : tie.Need-enum-told
 enum-told c = search needs
@@ -26,13 +23,13 @@ enum-known-request : tie.Need-enum-known-request
 enum-known-request c = search needs
 
 control-requires : tie.Need-control-requires
-control-requires c κs = subst (λ r. phyOf r < 24) (c .before .request .given .1) (c .before .before .before .before .pre)
+control-requires c κs = search needs
 
 enum-known-request-2 : tie.Need-enum-known-request-2
 enum-known-request-2 c = search needs
 
 configure-requires : tie.Need-configure-requires
-configure-requires c κs = subst (λ r. phyOf r < 24) (c .before .request2 .given .1) (c .before .before .before .before .pre)
+configure-requires c κs = search needs
 
 returns : tie.Need-returns
 unfolding effect

@@ -1,47 +1,44 @@
-// What an accepted request does to the shelf: a read does nothing to it, and a write puts its phy back changed.
+// What an accepted request does to the shelf: a read does nothing to it, and a write puts its phy back
+// changed.
+//
+// A shelf goes in by value and comes back by value. `effect` is proved equal to the model's definition of
+// that name (crates/model/specs/Writes), and asks nothing of its caller.
 use counters::counts::originate;
-use model::FunctionResult;
 use model::Request;
 use model::Shelf;
+use shelf::phys::phy_at;
+use shelf::phys::put;
 use writes::configure::configured;
 use writes::control::control_changes;
 use writes::control::controlled;
 ghost use mathlib.Core.Path.{_≡_};
-ghost use Prim.Native.Nat.{_<_};
-ghost use Rattle.model.specs.Request.{phyOf};
 ghost use Rattle.model.specs.Writes.{control, configure, effect};
-ghost use Rattle.server.specs.Serving.{leaves, InArray};
 
 // An accepted 91h: another record for its phy, and, where Change is originated, the change count.
 fn control(shelf: Shelf, phy: u8, operation: u8) -> Shelf
-    requires { ⌜ phy < 24 ⌝ }
     ensures { λ r. ⌜ r ≡ control shelf phy operation ⌝ }
 {
-    let p = phy as usize;
-    let before = shelf.phys[p];
-    let mut after = shelf;
-    after.phys[p] = controlled(operation, before);
+    let phys = shelf.phys;
+    let before = phy_at(phys, phy as u32);
+    let after = controlled(operation, before);
     if control_changes(operation, before) {
-        after.changes = originate(shelf.changes);
+        return put(shelf, phy as u32, after, originate(shelf.changes));
     }
-    after
+    put(shelf, phy as u32, after, shelf.changes)
 }
 
 // An accepted 93h: another record for its phy.
 fn configure(shelf: Shelf, frame: &[u8], clear: bool, phy: u8, number: u8) -> Shelf
-    requires { ⌜ phy < 24 ⌝ }
     ensures { λ r. ⌜ r ≡ configure shelf (now (frame .entry)) clear phy number ⌝ }
 {
-    let p = phy as usize;
-    let before = shelf.phys[p];
-    let mut after = shelf;
-    after.phys[p] = configured(frame, number, clear, before);
-    after
+    let phys = shelf.phys;
+    let before = phy_at(phys, phy as u32);
+    let after = configured(frame, number, clear, before);
+    put(shelf, phy as u32, after, shelf.changes)
 }
 
-// The shelf after an accepted request whose phy, if it has one, is there. Reads change nothing.
-fn effect(shelf: Shelf, frame: &[u8], request: Request) -> Shelf
-    requires { ⌜ phyOf request < 24 ⌝ }
+// The shelf after an accepted request. Reads change nothing.
+pub fn effect(shelf: Shelf, frame: &[u8], request: Request) -> Shelf
     ensures { λ r. ⌜ r ≡ effect shelf (now (frame .entry)) request ⌝ }
 {
     match request {
@@ -62,20 +59,4 @@ fn effect(shelf: Shelf, frame: &[u8], request: Request) -> Shelf
             number,
         } => configure(shelf, frame, clear, phy, number),
     }
-}
-
-// The next shelf: a request has its full effect where its result is accepted, and otherwise none at all.
-pub(crate) fn next_shelf(
-    shelf: Shelf,
-    frame: &[u8],
-    request: Request,
-    result: FunctionResult,
-) -> Shelf
-    requires { ⌜ InArray request result ⌝ }
-    ensures { λ r. ⌜ r ≡ leaves shelf (now (frame .entry)) request result ⌝ }
-{
-    let FunctionResult::Accepted = result else {
-        return shelf;
-    };
-    effect(shelf, frame, request)
 }

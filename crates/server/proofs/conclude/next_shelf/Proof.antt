@@ -1,10 +1,8 @@
--- `server::effect::next_shelf` meets its contract: the old shelf, or the one with the effect. Assumes nothing.
+-- `server::conclude::next_shelf` meets its contract: the old shelf, or the one with the effect. Assumes nothing.
 use borrow.Author.Needs.{needs}
-use mathlib.Core.Path.{ap}
-use Rattle.model.specs.Results.{accepted}
 use Rattle.results.proofs.Passing.{not-accepted}
-use Rattle.server.proofs.effect.next_shelf.Statement.{statement}
-use Rattle.server.proofs.effect.next_shelf.Tie as tie
+use Rattle.server.proofs.conclude.next_shelf.Statement.{statement}
+use Rattle.server.proofs.conclude.next_shelf.Tie as tie
 
 enum-told : tie.Need-enum-told
 enum-told c = search needs
@@ -13,7 +11,7 @@ returns : tie.Need-returns
 returns c = rw (not-accepted (c .before .before .args .result) (c .match .keys2))
 
 effect-requires : tie.Need-effect-requires
-effect-requires c κs = c .before .before .before .pre (ap accepted (c .enum-told .given .1))
+effect-requires c κs = search needs
 
 returns-2 : tie.Need-returns-2
 returns-2 c = rw (c .before .enum-told .given .1) (c .effect .ensures)
