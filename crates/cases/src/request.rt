@@ -5,22 +5,11 @@ use crate::print::print_unread;
 use model::Answer;
 use model::Served;
 use model::Shelf;
+use script::line::read_asked;
+use script::line::read_hex;
 use script::text::Reading;
-use script::text::read;
 use server::serve;
 use spelling::part::within;
-
-// Reads the length of the lent buffer, which may be left out, as the last number.
-fn read_room(line: &[u8], from: Reading) -> Reading {
-    let told = read(line, from, b", buffer of #:");
-    if told.fits {
-        return told;
-    }
-    let mut untold = read(line, from, b":");
-    untold.second = untold.third;
-    untold.third = 1028;
-    untold
-}
 
 // A frame that was read: how many bytes it has, and whether the line is a request.
 struct Frame {
@@ -28,19 +17,12 @@ struct Frame {
     fits: bool,
 }
 
-// Reads one byte of a frame.
-fn read_byte(line: &[u8], from: Reading) -> Reading {
-    let mut next = read(line, from, b" $");
-    next.fits = next.fits & (next.third <= 0xFF);
-    next
-}
-
 // Reads the bytes of a frame to the end of the line. A frame that there is no room for can't be read.
 fn read_frame(line: &[u8], from: Reading, frame: &mut [u8; 1100]) -> Frame {
     let mut next = from;
     let mut n = 0;
     while n < 1100 && next.at < line.len() {
-        next = read_byte(line, next);
+        next = read_hex(line, next);
         frame[n] = (next.third % 0x100) as u8;
         n = n + 1;
     }
@@ -83,7 +65,7 @@ fn run_asked(shelf: Shelf, source: u32, frame: &[u8; 1100], length: usize, room:
 
 // `from 8: 40 14 00 ..`, `from 1, buffer of 1027: 40 ..`
 pub(crate) fn run_request(shelf: Shelf, line: &[u8], from: Reading) -> Shelf {
-    let asked = read_room(line, read(line, from, b"from #"));
+    let asked = read_asked(line, from);
     let mut bytes = [0u8; 1100];
     let frame = read_frame(line, asked, &mut bytes);
     if frame.fits & (asked.third <= 2048) {

@@ -2,11 +2,12 @@
 use crate::print::print_house;
 use crate::print::print_unread;
 use crate::request::run_request;
-use gate::bytes::byte_at;
 use libc::STDOUT_FILENO;
 use model::Reach;
 use model::Shelf;
 use model::Taken;
+use script::line::Line;
+use script::line::line_kind;
 use script::report::Told;
 use script::report::make_times;
 use script::report::read_report;
@@ -56,30 +57,30 @@ fn run_reach(shelf: Shelf, line: &[u8], from: Reading) {
     }
 }
 
-// An operation: after the line come an arrow and the answer. Its first letter tells the kind.
-fn run_operation(shelf: Shelf, line: &[u8]) -> Shelf {
+// Begins the answer to an operation: after the line, an arrow. Gives the reading past the two spaces
+// before the operation.
+fn begin_answer(line: &[u8]) -> Reading {
     io::write_all(STDOUT_FILENO, b" ->");
-    let from = read(line, unread(), b"  ");
-    match byte_at(line, 2) {
-        b'f' => run_request(shelf, line, from),
-        b'r' => {
-            run_reach(shelf, line, from);
-            shelf
-        }
-        _ => run_report(shelf, line, from),
-    }
+    read(line, unread(), b"  ")
 }
 
-// Runs one line and writes it with what it came to; the shelf afterwards. A heading begins with no
-// space, and starts shelf W afresh. An empty line and a remark do nothing.
+// Runs one line and writes it with what it came to; the shelf afterwards. A heading starts shelf W afresh.
 pub(crate) fn run_line(shelf: Shelf, line: &[u8]) -> Shelf {
     io::write_all(STDOUT_FILENO, line);
-    let remark = read(line, unread(), b"  - ");
-    let is_idle = (line.len() == 0) | remark.fits;
-    let is_heading = byte_at(line, 0) != b' ';
-    if !is_idle & !is_heading {
-        return run_operation(shelf, line);
+    match line_kind(line) {
+        Line::Heading => {
+            io::write_all(STDOUT_FILENO, b"\n");
+            shelf_w()
+        }
+        Line::Request => run_request(shelf, line, begin_answer(line)),
+        Line::Reach => {
+            run_reach(shelf, line, begin_answer(line));
+            shelf
+        }
+        Line::Report => run_report(shelf, line, begin_answer(line)),
+        Line::Idle => {
+            io::write_all(STDOUT_FILENO, b"\n");
+            shelf
+        }
     }
-    io::write_all(STDOUT_FILENO, b"\n");
-    if is_idle { shelf } else { shelf_w() }
 }

@@ -13,8 +13,8 @@ abbrev μ-loop : tie.MeasureT-loop
 loop-holds : tie.Need-loop-holds Inv-loop μ-loop
 loop-holds c = search needs
 
-read-byte-requires : tie.Need-read-byte-requires Inv-loop μ-loop
-read-byte-requires c κs = search needs
+read-hex-requires : tie.Need-read-hex-requires Inv-loop μ-loop
+read-hex-requires c κs = search needs
 
 cast-frame : tie.Need-cast-frame Inv-loop μ-loop
 cast-frame c = search needs
@@ -41,7 +41,7 @@ read-frame-spec =
     Inv-loop
     μ-loop
     loop-holds
-    read-byte-requires
+    read-hex-requires
     cast-frame
     element-write-frame
     add-n

@@ -1,0 +1,96 @@
+-- `script::line::line_kind` meets its contract: the tests in their order are those of the definition. Assumes nothing.
+use mathlib.Core.Path.{_≡_}
+use borrow.Author.Needs.{needs}
+use borrow.Author.Tests.{ne-eqb}
+use Rattle.model.specs.Bytes.{text}
+use Rattle.script.specs.Line.{lineKind}
+use Rattle.script.specs.Text.{unread, read}
+use Rattle.script.proofs.line.line_kind.Statement.{statement}
+use Rattle.script.proofs.line.line_kind.Tie as tie
+
+unread-requires : tie.Need-unread-requires
+unread-requires c κs = search needs
+
+slice-aggregate-read : tie.Need-slice-aggregate-read
+slice-aggregate-read c = search needs
+
+read-requires : tie.Need-read-requires
+read-requires c κs = search needs
+
+-- what is read is the definition's
+remark : (c : tie.After-read)
+    → c .read .result ≡ read (c .before .before .before .before .args .line .now) unread (text "  - ")
+remark c = rw (c .before .before .unread .ensures) at (c .read .ensures)
+
+returns : tie.Need-returns
+unfolding lineKind
+returns c = rw (← remark (c .before .before), c .if1 .taken)
+
+byte-at-requires : tie.Need-byte-at-requires
+byte-at-requires c κs = search needs
+
+returns-2 : tie.Need-returns-2
+unfolding lineKind
+returns-2 c =
+    let first = c .before .before in
+    rw (← remark (first .before .before), first .if1 .left, ← c .before .byte-at .ensures, ne-eqb _ _ (c .if2 .taken))
+
+byte-at-requires-2 : tie.Need-byte-at-requires-2
+byte-at-requires-2 c κs = search needs
+
+returns-3 : tie.Need-returns-3
+unfolding lineKind
+returns-3 c =
+    let second = c .before .before in
+    let first = second .before .before in
+    rw (
+      ← remark (first .before .before),
+      first .if1 .left,
+      ← second .before .byte-at .ensures,
+      second .if2 .left,
+      ← c .before .byte-at2 .ensures,
+    )
+    (simp (c .match .keys1))
+
+returns-4 : tie.Need-returns-4
+unfolding lineKind
+returns-4 c =
+    let second = c .before .before in
+    let first = second .before .before in
+    rw (
+      ← remark (first .before .before),
+      first .if1 .left,
+      ← second .before .byte-at .ensures,
+      second .if2 .left,
+      ← c .before .byte-at2 .ensures,
+    )
+    (simp (c .match .keys2))
+
+returns-5 : tie.Need-returns-5
+unfolding lineKind
+returns-5 c =
+    let second = c .before .before in
+    let first = second .before .before in
+    rw (
+      ← remark (first .before .before),
+      first .if1 .left,
+      ← second .before .byte-at .ensures,
+      second .if2 .left,
+      ← c .before .byte-at2 .ensures,
+    )
+    (rw (ne-eqb _ _ (c .match .rest .0 .1), ne-eqb _ _ (c .match .rest .1)))
+
+pub line-kind-spec : {M : Type 1} → statement M
+line-kind-spec =
+    tie.close
+    (tie.spec
+    unread-requires
+    slice-aggregate-read
+    read-requires
+    returns
+    byte-at-requires
+    returns-2
+    byte-at-requires-2
+    returns-3
+    returns-4
+    returns-5)
