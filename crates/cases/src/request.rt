@@ -3,13 +3,14 @@ use crate::print::print_house;
 use crate::print::print_response;
 use crate::print::print_unread;
 use model::Answer;
-use model::Served;
 use model::Shelf;
 use script::line::read_asked;
 use script::line::read_hex;
 use script::text::Reading;
 use server::serve;
 use spelling::part::within;
+ghost use mathlib.Core.Path.{_≡_};
+ghost use lib.ListN.{length};
 
 // A frame that was read: how many bytes it has, and whether the line is a request.
 struct Frame {
@@ -18,10 +19,12 @@ struct Frame {
 }
 
 // Reads the bytes of a frame to the end of the line. A frame that there is no room for can't be read.
-fn read_frame(line: &[u8], from: Reading, frame: &mut [u8; 1100]) -> Frame {
+fn read_frame(line: &[u8], from: Reading, frame: &mut [u8]) -> Frame
+    ensures { λ _. ⌜ length (now (frame .exit)) ≡ length (now (frame .entry)) ⌝ }
+{
     let mut next = from;
     let mut n = 0;
-    while n < 1100 && next.at < line.len() {
+    while n < frame.len() && next.at < line.len() {
         next = read_hex(line, next);
         frame[n] = (next.third % 0x100) as u8;
         n = n + 1;
@@ -32,7 +35,8 @@ fn read_frame(line: &[u8], from: Reading, frame: &mut [u8; 1100]) -> Frame {
     }
 }
 
-// Serves the first bytes of the frame with the first bytes of the buffer.
+// Serves the first bytes of the frame with the first bytes of the buffer, and writes the response, which
+// stands in the buffer, or the refusal.
 fn ask(
     shelf: Shelf,
     source: u32,
@@ -40,36 +44,37 @@ fn ask(
     length: usize,
     buffer: &mut [u8],
     room: u32,
-) -> Served {
+) -> Shelf {
     let n = within(length, frame);
     let k = within(room as usize, buffer);
-    serve(shelf, source, &frame[..n], &mut buffer[..k])
-}
-
-// Serves a request that was read, and writes the bytes of the response, which stand in the buffer, or
-// the refusal. The buffer is full of EEh, which is in no stored response, so a byte that the server
-// did not write would show.
-fn run_asked(shelf: Shelf, source: u32, frame: &[u8; 1100], length: usize, room: u32) -> Shelf {
-    let mut buffer = [0xEEu8; 2048];
-    let served = ask(shelf, source, frame, length, &mut buffer, room);
+    let served = serve(shelf, source, &frame[..n], &mut buffer[..k]);
     let answer = served.answer;
     match answer {
-        Answer::Response(length) => {
-            let k = within(length, &buffer);
-            print_response(&buffer[..k])
+        Answer::Response(size) => {
+            let sent = within(size, buffer);
+            print_response(&buffer[..sent])
         }
         Answer::NoResponse(house) => print_house(house),
     }
     served.shelf
 }
 
-// `from 8: 40 14 00 ..`, `from 1, buffer of 1027: 40 ..`
+// `from 8: 40 14 00 ..`, `from 1, buffer of 1027: 40 ..`. The buffer is full of EEh, which is in no stored
+// response, so a byte that the server did not write would show.
 pub(crate) fn run_request(shelf: Shelf, line: &[u8], from: Reading) -> Shelf {
     let asked = read_asked(line, from);
     let mut bytes = [0u8; 1100];
     let frame = read_frame(line, asked, &mut bytes);
     if frame.fits & (asked.third <= 2048) {
-        return run_asked(shelf, asked.second, &bytes, frame.length, asked.third);
+        let mut buffer = [0xEEu8; 2048];
+        return ask(
+            shelf,
+            asked.second,
+            &bytes,
+            frame.length,
+            &mut buffer,
+            asked.third,
+        );
     }
     print_unread();
     shelf

@@ -15,8 +15,9 @@ use Rattle.model.specs.Zone.{row, rowReaches}
 use Rattle.model.proofs.Laws.PhyChanges.{Inner}
 use Rattle.model.proofs.Laws.Tests.{is-true}
 
--- A phy as a row sees it: whole where the row reaches it. Where it does not, its numbers are not seen (0 stands for them); its group and whether it is
--- enabled stay, since a disable moves the change count, which all may read, only if the phy was enabled.
+-- A phy as a row sees it: whole where the row reaches it. Where it does not, its numbers are not seen, and 0 stands for each;
+-- its group and whether it is enabled stay, since a disable moves the change count, which all may read, only if the phy was
+-- enabled.
 abbrev pub seen : ℕ → Phy → Phy
 seen r x =
     record {
