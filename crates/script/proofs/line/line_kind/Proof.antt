@@ -2,7 +2,10 @@
 use mathlib.Core.Path.{_≡_}
 use borrow.Author.Needs.{needs}
 use borrow.Author.Tests.{ne-eqb}
+use lib.Dec.{eqb}
 use Rattle.model.specs.Bytes.{text}
+use Rattle.model.specs.Tests.{given}
+use Rattle.script.specs.declared.line.Line.the-variants.{Request, Reach, Report}
 use Rattle.script.specs.Line.{lineKind}
 use Rattle.script.specs.Text.{unread, read}
 use Rattle.script.proofs.line.line_kind.Statement.{statement}
@@ -38,47 +41,30 @@ returns-2 c =
 byte-at-requires-2 : tie.Need-byte-at-requires-2
 byte-at-requires-2 c κs = search needs
 
-returns-3 : tie.Need-returns-3
+-- past the first two tests the letter is left
+letter : (c : tie.After-byte-at2)
+    → lineKind (c .before .before .before .before .before .before .before .before .before .args .line .now)
+    ≡ given (eqb (c .byte-at2 .result) 0x66) Request (given (eqb (c .byte-at2 .result) 0x72) Reach Report)
 unfolding lineKind
-returns-3 c =
-    let second = c .before .before in
+letter c =
+    let second = c .before in
     let first = second .before .before in
     rw (
       ← remark (first .before .before),
       first .if1 .left,
       ← second .before .byte-at .ensures,
       second .if2 .left,
-      ← c .before .byte-at2 .ensures,
+      ← c .byte-at2 .ensures,
     )
-    (simp (c .match .keys1))
+
+returns-3 : tie.Need-returns-3
+returns-3 c = rw (letter (c .before)) (simp (c .match .keys1))
 
 returns-4 : tie.Need-returns-4
-unfolding lineKind
-returns-4 c =
-    let second = c .before .before in
-    let first = second .before .before in
-    rw (
-      ← remark (first .before .before),
-      first .if1 .left,
-      ← second .before .byte-at .ensures,
-      second .if2 .left,
-      ← c .before .byte-at2 .ensures,
-    )
-    (simp (c .match .keys2))
+returns-4 c = rw (letter (c .before)) (simp (c .match .keys2))
 
 returns-5 : tie.Need-returns-5
-unfolding lineKind
-returns-5 c =
-    let second = c .before .before in
-    let first = second .before .before in
-    rw (
-      ← remark (first .before .before),
-      first .if1 .left,
-      ← second .before .byte-at .ensures,
-      second .if2 .left,
-      ← c .before .byte-at2 .ensures,
-    )
-    (rw (ne-eqb _ _ (c .match .rest .0 .1), ne-eqb _ _ (c .match .rest .1)))
+returns-5 c = rw (letter (c .before), ne-eqb _ _ (c .match .rest .0 .1), ne-eqb _ _ (c .match .rest .1))
 
 pub line-kind-spec : {M : Type 1} → statement M
 line-kind-spec =
