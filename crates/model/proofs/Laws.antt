@@ -15,3 +15,5 @@ pub mod Checks
 pub mod Handled
 pub mod PhyChanges
 pub mod Steps
+-- promises that settle their outcome, for the crates above
+pub mod Settling

@@ -18,7 +18,8 @@ pub mod Server
 pub mod Sources
 pub mod Counting
 pub mod Reports
--- "What each promise has to rule out", for demand 3: runs, and what is crossed out of them
+-- "What each promise has to rule out": that it settles its outcome; and for demand 3 runs, and what is crossed out of them
+pub mod Settled
 pub mod Runs
 pub mod CrossedOut
 -- "Shelf W, for checking": the reader of hexadecimal, the shelf, the cases, and further vectors

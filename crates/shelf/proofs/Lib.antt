@@ -1,3 +1,5 @@
 -- Facts that the functions' proofs use: of a loop that asks whether all pass, and of one that fills an array.
 pub mod All
 pub mod Filled
+-- Each public promise settles its outcome.
+pub mod Settled

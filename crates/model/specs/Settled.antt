@@ -1,0 +1,26 @@
+-- "The promise of a public function settles, for all inputs, the result, the next state and the lent buffer afterwards, in refusals
+-- too. Show that no two differing outcomes satisfy it". The next state is part of the result: a shelf goes in and comes back by value.
+--
+-- A promise is taken as the toolchain reads it off the function's source, so that nothing is typed a second time: `Kinds` of a function
+-- has the kinds of its parameters (ps) and of its result (r), `Reads` what it asks of its caller (`Pre`) and what it promises (`Post`).
+-- κs are the lifetimes of what is lent, a the arguments.
+use Prim.Native.Nat.{ℕ}
+use mathlib.Core.Path.{_≡_}
+use mathlib.Core.List.{List}
+use contract.Lifetimes.{Lfts}
+use denote.Triple.Clauses.{Lasts, atExit}
+use borrow.Fn.Kinds.{PK, RK, Dens, In, Out, resT, endedOf}
+
+module _ {n : ℕ} (ps : List (PK n)) (r : RK n) where
+  -- An outcome that a promise allows at these inputs: the result, and what each `&mut` holds at the function's exit.
+  pub record Allowed (Post : Out n ps r) (κs : Lfts n) (a : Dens κs ps) : Type 0 where
+    pub result : resT r κs .Denot
+    pub lent : Lasts (endedOf n ps r) κs a
+    pub promised : Post κs a result (atExit (endedOf n ps r) κs a lent)
+
+  -- "for all inputs": nothing is asked of them; "no two differing outcomes": any two that the promise allows agree in the result and
+  -- in what each `&mut` holds afterwards.
+  pub record Settled (Pre : In n ps) (Post : Out n ps r) : Type 0 where
+    pub asks-nothing : (κs : Lfts n) (a : Dens κs ps) → Pre κs a
+    pub same-result : (κs : Lfts n) (a : Dens κs ps) (x y : Allowed Post κs a) → x .result ≡ y .result
+    pub same-lent : (κs : Lfts n) (a : Dens κs ps) (x y : Allowed Post κs a) → x .lent ≡ y .lent

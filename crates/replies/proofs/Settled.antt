@@ -1,0 +1,32 @@
+-- The promise of each public function of this crate settles its outcome (`Settled` of the model). Assumes nothing.
+use mathlib.Core.Path.{refl}
+use Rattle.model.specs.Settled.{Settled}
+use Rattle.model.proofs.Laws.Settling.{value-settles}
+use Rattle.replies.proofs.fixed.failed
+use Rattle.replies.proofs.fixed.report_general
+use Rattle.replies.proofs.fixed.report_manufacturer
+use Rattle.replies.proofs.fixed.report_phy_error_log
+use Rattle.replies.proofs.fixed.report_phy_event
+use Rattle.replies.proofs.fixed.broadcast_descriptor
+use Rattle.replies.proofs.wire.two
+
+pub failed-settled : Settled failed.Kinds.ps failed.Kinds.r failed.Reads.Pre failed.Reads.Post
+failed-settled = value-settles _ _ _ (λ κs a x y. refl)
+
+pub report-general-settled : Settled report_general.Kinds.ps report_general.Kinds.r report_general.Reads.Pre report_general.Reads.Post
+report-general-settled = value-settles _ _ _ (λ κs a x y. refl)
+
+pub report-manufacturer-settled : Settled report_manufacturer.Kinds.ps report_manufacturer.Kinds.r report_manufacturer.Reads.Pre report_manufacturer.Reads.Post
+report-manufacturer-settled = value-settles _ _ _ (λ κs a x y. refl)
+
+pub report-phy-error-log-settled : Settled report_phy_error_log.Kinds.ps report_phy_error_log.Kinds.r report_phy_error_log.Reads.Pre report_phy_error_log.Reads.Post
+report-phy-error-log-settled = value-settles _ _ _ (λ κs a x y. refl)
+
+pub report-phy-event-settled : Settled report_phy_event.Kinds.ps report_phy_event.Kinds.r report_phy_event.Reads.Pre report_phy_event.Reads.Post
+report-phy-event-settled = value-settles _ _ _ (λ κs a x y. refl)
+
+pub broadcast-descriptor-settled : Settled broadcast_descriptor.Kinds.ps broadcast_descriptor.Kinds.r broadcast_descriptor.Reads.Pre broadcast_descriptor.Reads.Post
+broadcast-descriptor-settled = value-settles _ _ _ (λ κs a x y. refl)
+
+pub two-settled : Settled two.Kinds.ps two.Kinds.r two.Reads.Pre two.Reads.Post
+two-settled = value-settles _ _ _ (λ κs a x y. refl)

@@ -1,0 +1,36 @@
+-- The promise of each public function of this crate settles its outcome (`Settled` of the model). Assumes nothing.
+use mathlib.Core.Path.{refl}
+use Rattle.model.specs.Settled.{Settled}
+use Rattle.model.proofs.Laws.Settling.{value-settles}
+use Rattle.script.proofs.line.line_kind
+use Rattle.script.proofs.line.read_asked
+use Rattle.script.proofs.line.read_hex
+use Rattle.script.proofs.report.read_report
+use Rattle.script.proofs.report.make_times
+use Rattle.script.proofs.shelf_w.shelf_w
+use Rattle.script.proofs.text.unread
+use Rattle.script.proofs.text.read
+
+pub line-kind-settled : Settled line_kind.Kinds.ps line_kind.Kinds.r line_kind.Reads.Pre line_kind.Reads.Post
+line-kind-settled = value-settles _ _ _ (λ κs a x y. refl)
+
+pub read-asked-settled : Settled read_asked.Kinds.ps read_asked.Kinds.r read_asked.Reads.Pre read_asked.Reads.Post
+read-asked-settled = value-settles _ _ _ (λ κs a x y. refl)
+
+pub read-hex-settled : Settled read_hex.Kinds.ps read_hex.Kinds.r read_hex.Reads.Pre read_hex.Reads.Post
+read-hex-settled = value-settles _ _ _ (λ κs a x y. refl)
+
+pub read-report-settled : Settled read_report.Kinds.ps read_report.Kinds.r read_report.Reads.Pre read_report.Reads.Post
+read-report-settled = value-settles _ _ _ (λ κs a x y. refl)
+
+pub make-times-settled : Settled make_times.Kinds.ps make_times.Kinds.r make_times.Reads.Pre make_times.Reads.Post
+make-times-settled = value-settles _ _ _ (λ κs a x y. refl)
+
+pub shelf-w-settled : Settled shelf_w.Kinds.ps shelf_w.Kinds.r shelf_w.Reads.Pre shelf_w.Reads.Post
+shelf-w-settled = value-settles _ _ _ (λ κs a x y. refl)
+
+pub unread-settled : Settled unread.Kinds.ps unread.Kinds.r unread.Reads.Pre unread.Reads.Post
+unread-settled = value-settles _ _ _ (λ κs a x y. refl)
+
+pub read-settled : Settled read.Kinds.ps read.Kinds.r read.Reads.Pre read.Reads.Post
+read-settled = value-settles _ _ _ (λ κs a x y. refl)
