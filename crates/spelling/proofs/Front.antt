@@ -4,8 +4,9 @@ use native.Mathlib.Numerals.{add-one}
 use native.Mathlib.Omega.{arith}
 use mathlib.Core.Path.{_≡_, refl, ap, sym, _∙_}
 use mathlib.Core.List.{List, [], _∷_, _++_, append-assoc}
-use lib.ListN.{length, take, set, getD, length-set}
-use lib.Seq.{take-nil, take-suc, take-suc-set, length-take-le}
+use lib.ListN.{length, take, drop, set, getD, length-set, take-append-drop}
+use lib.Seq.{take-nil, take-suc, take-suc-set, length-take-le, drop-drop, drop-set-lt}
+use Rattle.model.specs.Server.{over}
 use Rattle.spelling.specs.Part.{Counts}
 use Rattle.spelling.specs.Spelling.{hexDigit, bytesText, responseText}
 
@@ -64,3 +65,35 @@ spell-end text response i n all most h so-far =
     let spelled : take (3 * n) text ≡ bytesText (take n response) = rw all at so-far in
     let taken : take n response ≡ take 1364 response = ap (λ (k : ℕ). take k response) most ∙ take-min 1364 response in
     rw (take-store text (3 * n) 0x0A h, spelled, taken)
+
+-- what stands behind the text: from a place on as it was, it is so from a later place on
+rest-later : (now old : List ℕ) (m k : ℕ) → drop m now ≡ drop m old → drop (m + k) now ≡ drop (m + k) old
+rest-later now old m k same = sym (drop-drop k m now) ∙ ap (drop k) same ∙ drop-drop k m old
+
+-- the three stores of one byte leave what stands behind them
+pub turn-rest : (text old : List ℕ) (i a b c : ℕ) → drop (3 * i) text ≡ drop (3 * i) old
+    → drop (3 * (i + 1)) (set (set (set text (3 * i) a) (3 * i + 1) b) (3 * i + 2) c) ≡ drop (3 * (i + 1)) old
+turn-rest text old i a b c same =
+    let e : 3 * (i + 1) ≡ 3 * i + 3 = omega arith in
+    rw e
+    (drop-set-lt (3 * i + 3) _ (3 * i + 2) c (omega arith)
+    ∙ drop-set-lt (3 * i + 3) _ (3 * i + 1) b (omega arith)
+    ∙ drop-set-lt (3 * i + 3) text (3 * i) a (omega arith)
+    ∙ rest-later text old (3 * i) 3 same)
+
+-- and so does the newline
+pub end-rest : (text old : List ℕ) (i n : ℕ) → i ≡ n → drop (3 * i) text ≡ drop (3 * i) old
+    → drop (3 * n + 1) (set text (3 * n) 0x0A) ≡ drop (3 * n + 1) old
+end-rest text old i n all same =
+    let same-n : drop (3 * n) text ≡ drop (3 * n) old = rw all at same in
+    drop-set-lt (3 * n + 1) text (3 * n) 0x0A (omega arith) ∙ rest-later text old (3 * n) 1 same-n
+
+-- What is promised of a text settles its size and all of it: the bytes that are spelled, and behind them what was there.
+pub size-settled : (n : ℕ) (text bytes : List ℕ) → Counts n text → take n text ≡ bytes → n ≡ length bytes
+size-settled n text bytes size spelled = size .1 ∙ ap length spelled
+
+pub text-settled : (n : ℕ) (text old bytes : List ℕ) → Counts n text → take n text ≡ bytes → drop n text ≡ drop n old
+    → text ≡ over old bytes
+text-settled n text old bytes size spelled rest =
+    let n-is : n ≡ length bytes = size-settled n text bytes size spelled in
+    sym (take-append-drop n text) ∙ rw (spelled, rest, n-is)

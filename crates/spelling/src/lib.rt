@@ -8,7 +8,7 @@ use gate::numbers::house_number;
 use model::House;
 use part::within;
 ghost use mathlib.Core.Path.{_≡_};
-ghost use lib.ListN.{length, take};
+ghost use lib.ListN.{length, take, drop};
 ghost use Rattle.spelling.specs.Part.{Counts};
 ghost use Rattle.spelling.specs.Spelling.{hexDigit, houseText, setText, responseText};
 
@@ -52,8 +52,9 @@ pub fn set_text(phys: u32) -> [u8; 11]
 // Spells the bytes of a response and gives how long that is.
 fn spell_bytes(response: &[u8], text: &mut [u8]) -> usize
     requires { ⌜ length (now text) ≡ 4096 ⌝ }
-    ensures { λ r. ⌜ Counts r (now (text .exit)) ⌝ }
-    ensures { λ r. ⌜ take r (now (text .exit)) ≡ responseText (now (response .entry)) ⌝ }
+    ensures size { λ r. ⌜ Counts r (now (text .exit)) ⌝ }
+    ensures spelled { λ r. ⌜ take r (now (text .exit)) ≡ responseText (now (response .entry)) ⌝ }
+    ensures rest { λ r. ⌜ drop r (now (text .exit)) ≡ drop r (now (text .entry)) ⌝ }
 {
     let n = within(1364, response);
     for i in 0..n {
@@ -66,11 +67,12 @@ fn spell_bytes(response: &[u8], text: &mut [u8]) -> usize
 }
 
 // Spells the bytes of a response in hexadecimal at the start of the text, with a newline after the
-// last, and gives how long that is. There is room for any response, which has at most 400 bytes; from
-// 1,365 bytes on the rest is left out.
+// last, and gives how long that is; what stands behind stays. There is room for any response, which has
+// at most 400 bytes; from 1,365 bytes on the rest is left out.
 pub fn spell(response: &[u8], text: &mut [u8; 4096]) -> usize
-    ensures { λ r. ⌜ Counts r (now (text .exit)) ⌝ }
-    ensures { λ r. ⌜ take r (now (text .exit)) ≡ responseText (now (response .entry)) ⌝ }
+    ensures size { λ r. ⌜ Counts r (now (text .exit)) ⌝ }
+    ensures spelled { λ r. ⌜ take r (now (text .exit)) ≡ responseText (now (response .entry)) ⌝ }
+    ensures rest { λ r. ⌜ drop r (now (text .exit)) ≡ drop r (now (text .entry)) ⌝ }
 {
     spell_bytes(response, text)
 }

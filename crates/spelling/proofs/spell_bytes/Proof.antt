@@ -1,17 +1,21 @@
--- `spelling::spell_bytes` meets its contract. The loop's invariant: the text begins with the bytes so far. The measure is
--- how many bytes are left. Assumes nothing.
+-- `spelling::spell_bytes` meets its contract. The loop's invariant: the text begins with the bytes so far, and what stands
+-- behind them is as it was. The measure is how many bytes are left. Assumes nothing.
 use Prim.Native.Nat.{_*_, _-_, _≤_}
 use native.Mathlib.Omega.{arith}
 use mathlib.Core.Path.{_≡_, refl}
-use lib.ListN.{length, take, length-set}
+use lib.ListN.{length, take, drop, length-set}
 use Rattle.spelling.specs.Spelling.{bytesText}
-use Rattle.spelling.proofs.Front.{counts, spell-turn, spell-end}
+use Rattle.spelling.proofs.Front.{counts, spell-turn, spell-end, turn-rest, end-rest}
 use borrow.Author.Needs.{needs}
 use Rattle.spelling.proofs.spell_bytes.Statement.{statement}
 use Rattle.spelling.proofs.spell_bytes.Tie as tie
 
 abbrev Inv-loop : tie.InvT-loop
-Inv-loop response text₀ n i₀ text i = (i ≤ n) × (length text ≡ 4096) × (take (3 * i) text ≡ bytesText (take i response))
+Inv-loop response text₀ n i₀ text i =
+    (i ≤ n)
+    × (length text ≡ 4096)
+    × (take (3 * i) text ≡ bytesText (take i response))
+    × (drop (3 * i) text ≡ drop (3 * i) text₀)
 
 abbrev μ-loop : tie.MeasureT-loop
 μ-loop response text₀ n i₀ text i = n - i
@@ -21,7 +25,7 @@ within-requires c κs = search needs
 
 loop-holds : tie.Need-loop-holds Inv-loop μ-loop
 unfolding bytesText
-loop-holds c = (omega arith, omega arith, refl)
+loop-holds c = (omega arith, omega arith, refl, refl)
 
 mul-text : tie.Need-mul-text Inv-loop μ-loop
 mul-text c = search needs
@@ -70,7 +74,12 @@ loop-again c =
     let a = c .before .before .before .before .before .before .before .before .before .args in
     let at = c .before .before .before .before .before .loop in
     let turn = spell-turn (at .text) (a .response .now) (at .i) (omega arith) (omega arith) (at .inv .2) in
-    (omega arith, simp length-set (omega arith), rw (c .before .before .hex-digit .ensures, c .hex-digit2 .ensures) turn)
+    (
+      omega arith,
+      simp length-set (omega arith),
+      rw (c .before .before .hex-digit .ensures, c .hex-digit2 .ensures) turn,
+      turn-rest (at .text) (a .text .now) (at .i) _ _ _ (at .inv .3),
+    )
 
 mul-text-4 : tie.Need-mul-text-4 Inv-loop μ-loop
 mul-text-4 c = search needs
@@ -93,7 +102,10 @@ returns c =
     let at = c .before .loop in
     let n = c .before .before .within in (
       counts _ _ (simp length-set (omega arith)),
-      spell-end (at .text) (a .response .now) (at .i) (n .result) (omega arith) (n .ensures .1) (omega arith) (at .inv .2),
+      (
+        spell-end (at .text) (a .response .now) (at .i) (n .result) (omega arith) (n .ensures .1) (omega arith) (at .inv .2),
+        end-rest (at .text) (a .text .now) (at .i) (n .result) (omega arith) (at .inv .3),
+      ),
     )
 
 pub spell-bytes-spec : {M : Type 1} → statement M
