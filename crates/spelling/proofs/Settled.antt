@@ -25,9 +25,9 @@ pub spell-settled : Settled spell.Kinds.ps spell.Kinds.r spell.Reads.Pre spell.R
 spell-settled = record {
   asks-nothing = λ κs a. tt;
   same-result = λ κs a x y.
-    size-settled _ _ _ (x .promised .0) (x .promised .1 .0) ∙ sym (size-settled _ _ _ (y .promised .0) (y .promised .1 .0));
+      size-settled _ _ _ (x .promised .0) (x .promised .1 .0) ∙ sym (size-settled _ _ _ (y .promised .0) (y .promised .1 .0));
   same-lent = λ κs a x y.
-    ap (λ text. (tt, (text, tt)))
-    (text-settled _ _ _ _ (x .promised .0) (x .promised .1 .0) (x .promised .1 .1)
-    ∙ sym (text-settled _ _ _ _ (y .promised .0) (y .promised .1 .0) (y .promised .1 .1)));
+      ap (λ text. (tt, (text, tt)))
+      (text-settled _ _ _ _ (x .promised .0) (x .promised .1 .0) (x .promised .1 .1)
+      ∙ sym (text-settled _ _ _ _ (y .promised .0) (y .promised .1 .0) (y .promised .1 .1)));
 }

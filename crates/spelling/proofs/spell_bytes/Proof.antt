@@ -73,8 +73,7 @@ loop-again : tie.Need-loop-again Inv-loop μ-loop
 loop-again c =
     let a = c .before .before .before .before .before .before .before .before .before .args in
     let at = c .before .before .before .before .before .loop in
-    let turn = spell-turn (at .text) (a .response .now) (at .i) (omega arith) (omega arith) (at .inv .2) in
-    (
+    let turn = spell-turn (at .text) (a .response .now) (at .i) (omega arith) (omega arith) (at .inv .2) in (
       omega arith,
       simp length-set (omega arith),
       rw (c .before .before .hex-digit .ensures, c .hex-digit2 .ensures) turn,

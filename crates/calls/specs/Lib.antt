@@ -1,0 +1,2 @@
+-- What a run of the code is.
+pub mod Calls
