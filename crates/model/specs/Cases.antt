@@ -1,4 +1,4 @@
--- "The marked (P) cases are proved of the definitions, gathered as a single checked list." Cases 1 to 11, each with what was asked and
+-- "The marked (P) cases are proved of the definitions, gathered as a single checked list": cases 1 to 11, each with what was asked and
 -- what must come. "Freshly started for each case; where no source is named it is 1." `proofs/Cases` has the theorem that all hold.
 use Prim.Native.Nat.{ℕ}
 use mathlib.Core.List.{List, [], _∷_, _++_}
@@ -32,7 +32,8 @@ pub data Seen : Type 0 where
   Set : ℕ → ℕ → Seen
   Numbers : List ℕ → Seen
 
--- A case: document 01's number for it, the shelf, what happens first, what is asked, and what must come.
+-- A case: a number for the reader (here document 01's; the vectors say what theirs is), the shelf, what happens first, what is asked,
+-- and what must come.
 pub record Case : Type 0 where
   pub number : ℕ
   pub shelf : Shelf
@@ -61,12 +62,13 @@ came c = find (after (c .shelf) (c .first)) (c .asked)
 abbrev pub sent : ℕ → List ℕ → Operation
 sent g frame = Ask g frame (zeros 1028)
 
--- a case on shelf W with nothing before it, and one with something before it
-abbrev pub fresh : ℕ → Question → Seen → Case
-fresh n asked due = record { number = n; shelf = shelfW; first = []; asked = asked; due = due }
-
+-- a case on some shelf, with what happens first
 abbrev pub on : ℕ → Shelf → List Operation → Question → Seen → Case
 on n s first asked due = record { number = n; shelf = s; first = first; asked = asked; due = due }
+
+-- a case on shelf W, freshly started, with nothing before it
+abbrev pub fresh : ℕ → Question → Seen → Case
+fresh n asked due = on n shelfW [] asked due
 
 -- every broadcast count of shelf W: those under FFh, then each phy's three
 abbrev pub phyBroadcasts : Phy → List ℕ

@@ -21,7 +21,7 @@ abbrev pub failed : ℕ → ℕ → List ℕ
 failed function result = 0x41 ∷ function ∷ result ∷ 0x00 ∷ []
 
 -- "Response byte 0 is 41h, byte 1 the function, byte 2 the result, byte 3 the number of dwords that follow. Bytes not named
--- are 0." An accepted one: its function, its size in bytes, its length in dwords, and the bytes that are named.
+-- are 0". An accepted one: its function, its size in bytes, its length in dwords, and the bytes that are named.
 abbrev pub response : ℕ → ℕ → ℕ → List (ℕ × List ℕ) → List ℕ
 response function size dwords named = laid (0x41 ∷ function ∷ 0x00 ∷ dwords ∷ zeros (size - 4)) named
 

@@ -1,5 +1,5 @@
--- "Judging one request frame alone (function and H6, 01h, 03h or nothing wrong)." "Judging yields the read request or a refusal;
--- the server takes its requests from there only." "The link layer strips and checks the CRC. All frames here are without it."
+-- "judging one request frame alone (function and H6, 01h, 03h or nothing wrong)". "Judging yields the read request or a refusal;
+-- the server takes its requests from there only." "The link layer strips and checks the CRC. All frames here are without it".
 use Prim.Native.Nat.{ℕ, zero, suc, _+_, _*_}
 use mathlib.Core.Bool.{Bool, not, cond, _&&_, _||_}
 use mathlib.Core.List.{List, [], _∷_}

@@ -1,4 +1,4 @@
--- "Function results: a frame is written. In this order, first failure decides."
+-- "Function results: a frame is written". "In this order, first failure decides".
 use Prim.Native.Nat.{ℕ}
 use mathlib.Core.Bool.{Bool}
 use mathlib.Core.List.{List, [], _∷_}

@@ -43,7 +43,7 @@ same-shelf {s} {t} {u} {p} a b m n same count =
 
 -- ---- 91h
 
--- What a phy is afterwards is written out here, and not by the definitions of `Counting` and `Writes`, which it is to check.
+-- What a phy is afterwards is written out here, and not by `changeOn` and `withoutErrors`, which it is to check.
 
 -- phy p is x, and the change count is n
 abbrev pub Has : Shelf → ℕ → Phy → ℕ → Type 0
@@ -110,7 +110,7 @@ abbrev pub clears : List ℕ → Bool
 clears frame = bit (byte frame 6) 0
 
 -- "Descriptor i sets monitor i; a changed source sets the value to 0, the same source keeps it. Then, if clearing, each of the
--- phy's monitors on a peak source goes to 0." The number of descriptors is in byte 11.
+-- phy's monitors on a peak source goes to 0". The number of descriptors is in byte 11.
 pub record MonitorConfigured (frame : List ℕ) (i : ℕ) (old new : Monitor) : Type 0 where
   pub named-source : i < byte frame 11 → new .source ≡ descriptorSource frame i
   pub named-threshold : i < byte frame 11 → new .threshold ≡ descriptorThreshold frame i

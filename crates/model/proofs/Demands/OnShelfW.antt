@@ -1,5 +1,5 @@
 -- Two things that a reader of demand 3 will ask, answered on shelf W, where group 8 reaches phys 0, 1 and 3, and group 9 phys 2 and 3:
--- that "looks the same to g" is no empty talk, and why link resets, disables and link changes must stay. Assumes nothing.
+-- that looking the same to a group is no empty talk, and why link resets, disables and link changes must stay. Assumes nothing.
 use Prim.Native.Nat.{ℕ}
 use native.Mathlib.Omega.{arith}
 use mathlib.Core.Path.{_≡_, refl, ap}

@@ -1,4 +1,4 @@
--- "In this order, first failure decides." Assumes nothing.
+-- "In this order, first failure decides". Assumes nothing.
 use Prim.Native.Nat.{ℕ, _<_}
 use native.Mathlib.Omega.{arith}
 use mathlib.Core.Path.{_≡_, refl, sym}

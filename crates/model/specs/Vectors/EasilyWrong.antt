@@ -1,4 +1,4 @@
--- Document 01's "Easily got wrong", in its order.
+-- Document 01's "Easily got wrong", in its order. The first number is that of its line.
 use mathlib.Core.List.{List, [], _∷_, _++_}
 use Rattle.model.specs.Cases.{Case, Send, Look, Bytes, Numbers, fresh, on, sent}
 use Rattle.model.specs.Hex.{hex}
@@ -31,7 +31,7 @@ easilyWrong =
     (ReducedFunctionality ∷ [])
     (Send 9 (readBroadcasts 0x04))
     (Bytes (hex "41 06 00 03 00 01 04 01" ++ hex "FF 00 03 00 00 01 00 00"))
-    -- 3. an event source that no phy has, from a stranger and from one who reaches the phy
+    -- 3. an unsupported event source, 07h, from a stranger and from one who reaches the phy
     ∷ fresh 3 (Send 8 (configure 0x04 0x00 0x00 2 1 (watch 0x07 0))) (Bytes (hex "41 93 20 00"))
     ∷ fresh 3 (Send 9 (configure 0x04 0x00 0x00 2 1 (watch 0x07 0))) (Bytes (hex "41 93 17 00"))
     -- 4. two good descriptors, then a bad one: 17h, and all four monitors as they were

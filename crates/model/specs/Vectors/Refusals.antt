@@ -1,4 +1,5 @@
 -- House refusals of requests and reports, two faults at once among them, and what becomes of the lent buffer.
+-- The first number is that of the refusal, or of the first of several, and 0 where there is none.
 use mathlib.Core.List.{List, [], _∷_, _++_}
 use lib.ListN.{replicate}
 use Rattle.model.specs.Cases.{Case, Lend, Look, H, Numbers, fresh, ReachOf, Set}

@@ -1,4 +1,4 @@
--- On a shelf where no number of phy 0 is 0: what an operation doesn't name stays as it was.
+-- On a shelf where no number of phy 0 is 0: what an operation doesn't name stays as it was. No entry has a number: 0.
 use Prim.Native.Nat.{ℕ}
 use mathlib.Core.Bool.{cond}
 use mathlib.Core.List.{List, [], _∷_, _++_}
@@ -55,7 +55,7 @@ some s p =
 -- one operation about phy 2 where every phy has counts: phy 2 afterwards, and phy 0, which stays
 abbrev pub about2 : Operation → List ℕ → Case
 about2 operation phy2 =
-    on 2 countsW
+    on 0 countsW
     (operation ∷ [])
     (Look (λ s. some s 2 ++ some s 0))
     (Numbers (phy2 ++ (8 ∷ 0 ∷ 0x00 ∷ 0x0100 ∷ 0x0200 ∷ 0x0300 ∷ [])))

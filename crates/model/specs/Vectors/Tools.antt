@@ -89,7 +89,7 @@ countsW =
 abbrev pub fullW : Shelf
 fullW = putDevice (withCounts shelfW 0 0xFFFF 0xFFFF 0xFFFF) 0xFFFF 0xFFFF
 
--- shelf W where no number of phy 0 is 0
+-- countsW where no number of phy 0 is 0, and the change count is 0007h
 abbrev pub busyW : Shelf
 busyW =
     put countsW 0
