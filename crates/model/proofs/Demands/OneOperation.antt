@@ -20,7 +20,7 @@ use Rattle.model.specs.Reply.{deviceListed, phyListed, broadcasts, broad
 use Rattle.model.specs.Reply.{reportBroadcast, reportPhyErrorLog, reportPhyEvent, respond}
 use Rattle.model.specs.Reports.{eventTaken, event, linkChange, reducedFunctionality, sesNotice}
 use Rattle.model.specs.Request.{asked}
-use Rattle.model.specs.Results.{accepted, decide}
+use Rattle.model.specs.Results.{accepted, resultOf, decide}
 use Rattle.model.specs.Runs.{Operation, Ask, Event, LinkChange, ReducedFunctionality, Ses, QueryReach, next, told}
 use Rattle.model.specs.Runs.{Told, Answered, Shown}
 use Rattle.model.specs.Server.{Handled, Sends, handle, lent, answer, served, lentAfter}
@@ -28,7 +28,7 @@ use Rattle.model.specs.Shelf.{phyNumber, exists, phyAt, shelfWith, outco
 use Rattle.model.specs.Tests.{given, joinBelow}
 use Rattle.model.specs.Writes.{controlled, controlChanges, configured, effect}
 use Rattle.model.proofs.Demands.Looks.{looks, looks-reaches, looks-reached, looks-twice, looks-change}
-use Rattle.model.proofs.Laws.Checks.{both-outcomes, passed-11, passed-14}
+use Rattle.model.proofs.Laws.Checks.{both-outcomes, read-passed}
 use Rattle.model.proofs.Laws.Handled.{verdict, both-handled, both-concluded, accepted-decided}
 use Rattle.model.proofs.Laws.PhyChanges.{enablesBy, event-inner, change-inner, configured-inner, controlled-inner}
 
@@ -79,12 +79,12 @@ module _ (g : ℕ) (s : Shelf) where
 
   looks-respond : (frame : List ℕ) (request : Request) → accepted (decide s g frame request) ≡ true
       → respond (looks g s) g request ≡ respond s g request
-  unfolding respond reportGeneral reportManufacturer reportBroadcast reportPhyErrorLog reportPhyEvent
+  unfolding respond reportGeneral reportManufacturer reportBroadcast reportPhyErrorLog reportPhyEvent decide resultOf
   looks-respond frame ReportGeneral e = refl
   looks-respond frame ReportManufacturer e = refl
   looks-respond frame (ReportBroadcast kind) e = ap (broadcastFrame (s .changes) kind) (looks-broadcasts kind)
-  looks-respond frame (ReportPhyErrorLog p) e = ap (reportPhyErrorLog (s .changes) p) (looks-reached g s p (passed-11 s g frame p e .1))
-  looks-respond frame (ReportPhyEvent p) e = ap (reportPhyEvent (s .changes) p) (looks-reached g s p (passed-14 s g frame p e .1))
+  looks-respond frame (ReportPhyErrorLog p) e = ap (reportPhyErrorLog (s .changes) p) (looks-reached g s p (read-passed (exists s p) (reaches s g p) e .1))
+  looks-respond frame (ReportPhyEvent p) e = ap (reportPhyEvent (s .changes) p) (looks-reached g s p (read-passed (exists s p) (reaches s g p) e .1))
   looks-respond frame (PhyControl expected p operation) e = refl
   looks-respond frame (ConfigurePhyEvent expected clear p d) e = refl
 

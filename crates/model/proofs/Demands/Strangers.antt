@@ -21,14 +21,14 @@ use Rattle.model.specs.House.{answerNumber}
 use Rattle.model.specs.Reach.{reaches}
 use Rattle.model.specs.Reports.{eventTaken, event, linkChange, reducedFunctionality, sesNotice}
 use Rattle.model.specs.Request.{functionOf, known, lengthRight, asked}
-use Rattle.model.specs.Results.{resultCode, accepted, countRight, decide}
+use Rattle.model.specs.Results.{resultCode, accepted, countRight, checkOperation, checkDescriptors, resultOf, decide}
 use Rattle.model.specs.Server.{served, lentAfter}
 use Rattle.model.specs.Shelf.{exists, phyAt}
 use Rattle.model.specs.Tests.{check, given, oneOf}
 use Rattle.model.specs.Writes.{effect}
 use Rattle.model.proofs.Demands.Refusals.{request-refusal}
 use Rattle.model.proofs.Demands.Results.{Of, NotRefused, verdict-checks, result-byte, Failed, failed-result}
-use Rattle.model.proofs.Laws.Checks.{every-outcome, passed-91, passed-93}
+use Rattle.model.proofs.Laws.Checks.{every-outcome, write-passed}
 use Rattle.model.proofs.Laws.Handled.{verdict, handled-all, accepted-decided}
 use Rattle.model.proofs.Laws.Tests.{is-false, by-each, check-both, cond-both}
 use Rattle.model.proofs.Plain.Shelf.{OnlyPhy, same-only, put-only, put-other}
@@ -109,16 +109,18 @@ strangers-learn-nothing s t g h frame frame′ out answered answered′ strange 
 
 effect-elsewhere : (s : Shelf) (g : ℕ) (frame : List ℕ) (request : Request) (q : ℕ) → (T (reaches s g q) → ⊥)
     → accepted (decide s g frame request) ≡ true → phyAt (effect s frame request) q ≡ phyAt s q
-unfolding effect
+unfolding effect decide resultOf
 effect-elsewhere s g frame ReportGeneral q out e = refl
 effect-elsewhere s g frame ReportManufacturer q out e = refl
 effect-elsewhere s g frame (ReportBroadcast kind) q out e = refl
 effect-elsewhere s g frame (ReportPhyErrorLog p) q out e = refl
 effect-elsewhere s g frame (ReportPhyEvent p) q out e = refl
 effect-elsewhere s g frame (PhyControl expected p operation) q out e =
-    put-other s p _ (s .changes) q (λ same. out (rw (same, passed-91 s g frame expected p operation e .1) tt))
+    let reached = write-passed (countRight (s .changes) expected) (exists s p) (reaches s g p) (checkOperation operation) e .1 in
+    put-other s p _ (s .changes) q (λ same. out (rw (same, reached) tt))
 effect-elsewhere s g frame (ConfigurePhyEvent expected clear p d) q out e =
-    put-other s p _ (s .changes) q (λ same. out (rw (same, passed-93 s g frame expected p d clear e .1) tt))
+    let reached = write-passed (countRight (s .changes) expected) (exists s p) (reaches s g p) (checkDescriptors frame d) e .1 in
+    put-other s p _ (s .changes) q (λ same. out (rw (same, reached) tt))
 
 pub request-elsewhere : (s : Shelf) (g : ℕ) (frame out : List ℕ) (q : ℕ) → (T (reaches s g q) → ⊥)
     → phyAt (served s g frame out .shelf) q ≡ phyAt s q

@@ -1,6 +1,7 @@
 -- Demand 2, the writes: "A write that draws no house refusal takes its full effect exactly when its length, count, phy, zone and contents
 -- all pass, and otherwise has no effect at all." And reads never change the shelf. Assumes nothing.
 use Prim.Native.Nat.{ℕ, _+_, _*_, _≤_, _<_}
+use native.Mathlib.Nat.{pos-of-ne-zero}
 use native.Mathlib.Omega.{arith}
 use mathlib.Core.Path.{_≡_, refl, subst⁻¹}
 use mathlib.Core.Logic.{_↔_, Iff·trans, Iff·and}
@@ -132,12 +133,9 @@ full-or-none s g frame out {Full = Full} answered passes full =
           subst⁻¹ Full (granted-result s g frame out answered (passes .1 yes-all) .moves) (full yes-all);
       none = λ not-all.
           let some : 1 ≤ byte (lentAfter s g frame out) 2 =
-          positive (byte (lentAfter s g frame out) 2) (λ e. not-all (passes .0 e)) in
+          pos-of-ne-zero (λ e. not-all (passes .0 e)) in
           failed-result s g frame out (byte (lentAfter s g frame out) 2) answered refl some .stays;
     }
-  where
-    positive : (n : ℕ) → (n ≡ 0 → ⊥) → 1 ≤ n
-    positive n h = omega arith
 
 -- The full effect is that of a shelf whose array of phys has its 24 places, as every record has; that there is none asks nothing of it.
 abbrev pub Placed : Shelf → Type 0

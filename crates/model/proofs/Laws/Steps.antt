@@ -14,14 +14,15 @@ use Rattle.model.specs.declared.Request.the-variants.{ReportPhyErrorLog,
 use Rattle.model.specs.declared.Shelf.{Shelf}
 use Rattle.model.specs.declared.Taken.the-variants.{Done, NotDone}
 use Rattle.model.specs.Counting.{eventOn, changeOn}
+use Rattle.model.specs.Reach.{reaches}
 use Rattle.model.specs.Reports.{eventTaken, event, linkChange, reducedFunctionality, sesNotice}
 use Rattle.model.specs.Request.{asked}
-use Rattle.model.specs.Results.{accepted, decide}
+use Rattle.model.specs.Results.{accepted, countRight, checkOperation, checkDescriptors, resultOf, decide}
 use Rattle.model.specs.Runs.{Operation, Ask, Event, LinkChange, ReducedFunctionality, Ses, QueryReach, next}
 use Rattle.model.specs.Shelf.{noPhy, exists, phyAt, put, putDevice}
 use Rattle.model.specs.Tests.{given}
 use Rattle.model.specs.Writes.{controlled, controlChanges, configured, effect}
-use Rattle.model.proofs.Laws.Checks.{outcome-taken, every-outcome, passed-91, passed-93}
+use Rattle.model.proofs.Laws.Checks.{outcome-taken, every-outcome, write-passed}
 use Rattle.model.proofs.Laws.Handled.{handled-all, accepted-decided}
 use Rattle.model.proofs.Laws.PhyChanges.{moved, event-inner, change-inner, configured-inner, controlled-inner}
 use Rattle.model.proofs.Laws.Places.{change-at}
@@ -49,16 +50,18 @@ KeptBy Keeps (QueryReach g) = Unit {0}
 module _ (Keeps : (Phy → Phy) → (Phy → Bool) → Type 0) (s : Shelf) where
   effect-step : (g : ℕ) (frame out : List ℕ) (request : Request) → KeptBy Keeps (Ask g frame out)
       → accepted (decide s g frame request) ≡ true → Step Keeps s (effect s frame request)
-  unfolding effect
+  unfolding effect decide resultOf
   effect-step g frame out ReportGeneral keeps e = Stays refl
   effect-step g frame out ReportManufacturer keeps e = Stays refl
   effect-step g frame out (ReportBroadcast kind) keeps e = Stays refl
   effect-step g frame out (ReportPhyErrorLog p) keeps e = Stays refl
   effect-step g frame out (ReportPhyEvent p) keeps e = Stays refl
   effect-step g frame out (PhyControl expected p operation) keeps e =
-      Moves p (controlled operation) (controlChanges operation) (rw (passed-91 s g frame expected p operation e .0) tt) (keeps .0 operation) refl
+      let there = write-passed (countRight (s .changes) expected) (exists s p) (reaches s g p) (checkOperation operation) e .0 in
+      Moves p (controlled operation) (controlChanges operation) (rw there tt) (keeps .0 operation) refl
   effect-step g frame out (ConfigurePhyEvent expected clear p d) keeps e =
-      Moves p (configured frame d clear) (λ x. false) (rw (passed-93 s g frame expected p d clear e .0) tt) (keeps .1 d clear) refl
+      let there = write-passed (countRight (s .changes) expected) (exists s p) (reaches s g p) (checkDescriptors frame d) e .0 in
+      Moves p (configured frame d clear) (λ x. false) (rw there tt) (keeps .1 d clear) refl
 
   pub next-step : (operation : Operation) → KeptBy Keeps operation → Step Keeps s (next s operation)
   unfolding next event linkChange reducedFunctionality sesNotice

@@ -3,7 +3,7 @@ use Prim.Native.Nat.{ℕ, zero, suc, _≤_, _<_}
 use native.Mathlib.Nat.{not-suc-le-zero, not-le-of-lt, le-of-suc-le-suc, eq-or-lt-of-le}
 use native.Mathlib.Omega.{arith}
 use mathlib.Core.Path.{_≡_, refl, subst⁻¹}
-use mathlib.Core.Logic.{_↔_, _⊎_, inl, inr, ⊎-elim, Iff·trans, Iff·symm, Iff·and}
+use mathlib.Core.Logic.{_↔_, _⊎_, inl, inr, ⊎-elim, Iff·trans, Iff·symm, Iff·and, Iff·not}
 use mathlib.Core.Bool.{Bool, true, false, not, cond, _&&_, _||_, Bool·beq, or-assoc, true≢false, false≢true}
 use mathlib.Core.List.{List, [], _∷_, List·Memᴰ, List·Memᴰ·head, List·Memᴰ·tail, List·Memᴰ·cases-cons}
 use mathlib.Core.List.{List·Memᴰ·not-nil}
@@ -44,20 +44,13 @@ pub is-false : (a : Bool) → (T a → ⊥) → a ≡ false
 is-false true no-a = absurd (no-a tt)
 is-false false no-a = refl
 
-pub not-false : (a : Bool) → (a ≡ false → ⊥) → a ≡ true
-not-false true other = refl
-not-false false other = absurd (other refl)
-
 -- the denial of a test, from what the test says
 pub denied-iff : (a : Bool) {A : Type 0} → T a ↔ A → T (not a) ↔ (A → ⊥)
 denied-iff a f = (λ t x. T-not a t (f .1 x), λ no-a. not-T a (λ t. no-a (f .0 t)))
 
--- that a test fails, from what it says: by itself, and where it is asked only under a condition
-pub fails-iff : (a : Bool) {A : Type 0} → T a ↔ A → (T a → ⊥) ↔ (A → ⊥)
-fails-iff a f = (λ no-t x. no-t (f .1 x), λ no-a t. no-a (f .0 t))
-
+-- that a test fails which is asked only under a condition, from what both say
 pub fails-under-iff : (m a : Bool) {M A : Type 0} → T m ↔ M → T a ↔ A → (T (not m || a) → ⊥) ↔ (M × (A → ⊥))
-fails-under-iff true a f g = (λ no-t. (f .0 tt, fails-iff a g .0 no-t), λ h. fails-iff a g .1 (h .1))
+fails-under-iff true a f g = (λ no-t. (f .0 tt, Iff·not g .0 no-t), λ h. Iff·not g .1 (h .1))
 fails-under-iff false a f g = (λ no-t. absurd (no-t tt), λ h. absurd (f .1 (h .0)))
 
 -- a test of several parts, from what each part says
@@ -168,11 +161,6 @@ some-below-iff n test = (
 )
 
 -- ---- the first failure decides
-
--- a check with the same on both sides
-pub check-same : {A : Type 0} (b : Bool) (x : A) → check b x x ≡ x
-check-same true x = refl
-check-same false x = refl
 
 -- what is made of the outcome of a check
 pub check-map : {A B : Type 0} (f : A → B) (b : Bool) (failure rest : A)
