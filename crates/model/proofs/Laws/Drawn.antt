@@ -7,6 +7,7 @@ use mathlib.Core.Bool.{Bool, true, false, _&&_}
 use mathlib.Core.List.{List, [], _∷_}
 use lib.Dec.{T, ltb}
 use Rattle.model.specs.Tests.{check}
+use Rattle.model.proofs.Laws.Places.{All}
 use Rattle.model.proofs.Laws.Tests.{and-iff, ltb-iff}
 
 -- Failures in their order, each with its code and when it is there. A code is drawn if its failure is there and none before it is;
@@ -42,8 +43,7 @@ draws-first tests failures (tell {test = false} {There = There} says telling) co
 -- ---- 00h is drawn exactly if every check passes, where none has the code 00h.
 
 abbrev pub AllPass : List (ℕ × Bool) → Type 0
-AllPass [] = Unit {0}
-AllPass (test ∷ tests) = T (test .1) × AllPass tests
+AllPass = All (λ test. T (test .1))
 
 abbrev pub coded : List (ℕ × Bool) → Bool
 coded [] = true

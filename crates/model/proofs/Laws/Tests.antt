@@ -1,6 +1,6 @@
 -- Laws of the small words of `specs/Tests`: when each holds, in plain logic. Assumes nothing.
 use Prim.Native.Nat.{ℕ, zero, suc, _≤_, _<_}
-use native.Mathlib.Nat.{not-suc-le-zero, not-le-of-lt, le-of-suc-le-suc, eq-or-lt-of-le}
+use native.Mathlib.Nat.{not-suc-le-zero, not-le-of-lt, lt-of-not-le, le-of-suc-le-suc, eq-or-lt-of-le}
 use native.Mathlib.Omega.{arith}
 use mathlib.Core.Path.{_≡_, refl, subst⁻¹}
 use mathlib.Core.Logic.{_↔_, _⊎_, inl, inr, ⊎-elim, Iff·trans, Iff·symm, Iff·and, Iff·not}
@@ -99,6 +99,10 @@ within-iff low high n = both-iff (leb low n) (leb n high) (leb-iff low n) (leb-i
 -- not at most is above
 pub above-iff : (m n : ℕ) → T (not (leb m n)) ↔ (n < m)
 above-iff m n = (nleb→lt m n, λ h. not-T (leb m n) (λ t. not-le-of-lt h (leb→le m n t)))
+
+-- not below is at most
+pub not-above : {m n : ℕ} → (m < n → ⊥) → n ≤ m
+not-above h = le-of-suc-le-suc (lt-of-not-le h)
 
 -- ---- one of a list
 

@@ -20,8 +20,8 @@ use Rattle.model.specs.Shelf.{phyNumber, exists, phyAt}
 use Rattle.model.specs.Tests.{joinBelow}
 use Rattle.model.proofs.Laws.Join.{join-has, has-join, join-rising}
 use Rattle.model.proofs.Laws.Picked.{onlyIf, onlyIf-iff}
-use Rattle.model.proofs.Laws.Rising.{Rising, rising-one, rising-append, rising-cond}
-use Rattle.model.proofs.Laws.Tests.{ltb-iff}
+use Rattle.model.proofs.Laws.Rising.{Rising, rising-one, rising-append}
+use Rattle.model.proofs.Laws.Tests.{ltb-iff, cond-both}
 
 -- "descriptors of 12 bytes" (14h) and "of 8 bytes" (06h)
 pub event-descriptor-length : (m : Monitor) → length (eventDescriptor m) ≡ 12
@@ -211,13 +211,13 @@ place-phy : (b : Broadcast) → b .phy < 24 → place b ≡ 4 * suc (b .phy) + b
 place-phy b h = rw (ne-eqb (b .phy) 0xFF (λ e. omega arith))
 
 rising-listed : (p r n : ℕ) → Rising place (listed p r n)
-rising-listed p r n = rising-cond place (eqb n 0) [] (entry p r n ∷ []) tt (rising-one place (entry p r n))
+rising-listed p r n = cond-both (Rising place) (eqb n 0) [] (entry p r n ∷ []) tt (rising-one place (entry p r n))
 
 rising-device : (s : Shelf) (kind : ℕ) → Rising place (deviceListed kind (s .expander3) (s .ses0))
 unfolding deviceListed
 rising-device s kind =
-    rising-cond place (eqb kind 0x3) _ _ (rising-listed 0xFF 0x0 (s .ses0))
-    (rising-cond place (eqb kind 0x4) _ _ (rising-listed 0xFF 0x3 (s .expander3)) tt)
+    cond-both (Rising place) (eqb kind 0x3) _ _ (rising-listed 0xFF 0x0 (s .ses0))
+    (cond-both (Rising place) (eqb kind 0x4) _ _ (rising-listed 0xFF 0x3 (s .expander3)) tt)
 
 -- of one phy, the lower reason comes first
 place-reason : (b c : Broadcast) → b .phy ≡ c .phy → b .reason < c .reason → place b < place c
@@ -233,8 +233,8 @@ unfolding phyListed
 rising-phy kind p x =
     let first : List Broadcast = listed p 0x1 (x .expander1) in
     let second : List Broadcast = listed p 0x2 (x .expander2) in
-    rising-cond place (eqb kind 0x0) _ _ (rising-listed p 0x0 (x .change0))
-    (rising-cond place (eqb kind 0x4) _ _
+    cond-both (Rising place) (eqb kind 0x0) _ _ (rising-listed p 0x0 (x .change0))
+    (cond-both (Rising place) (eqb kind 0x4) _ _
     (rising-append place first second (rising-listed p 0x1 (x .expander1)) (rising-listed p 0x2 (x .expander2))
     (λ b c mb mc.
     let (_, bp, br, _) = listed-has (b .phy) (b .reason) (b .count) p 0x1 (x .expander1) mb in
@@ -258,7 +258,7 @@ listed-rising s g kind =
     rising-append place (deviceListed kind (s .expander3) (s .ses0)) (joinBelow (phyNumber s) (ofPhy s g kind)) (rising-device s kind)
     (join-rising place (ofPhy s g kind) (λ p. 4 * suc p) (λ p. omega arith) (phyNumber s)
     (λ p b h m. phy-places s g kind p b h m)
-    (λ p. rising-cond place (reaches s g p) (phyListed kind p (phyAt s p)) [] (rising-phy kind p (phyAt s p)) tt))
+    (λ p. cond-both (Rising place) (reaches s g p) (phyListed kind p (phyAt s p)) [] (rising-phy kind p (phyAt s p)) tt))
     (λ b c mb mc.
     let (ff, due) = device-has s kind (b .phy) (b .reason) (b .count) mb in
     let small : b .reason < 4 = kept-small s kind (b .phy) (b .reason) (b .count) (due .0) .1 in

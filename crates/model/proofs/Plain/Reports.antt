@@ -1,6 +1,6 @@
 -- When a report is accepted, in plain logic. Assumes nothing.
 use Prim.Native.Nat.{ℕ, _≤_, _<_}
-use native.Mathlib.Nat.{not-le-of-lt, le-of-suc-le-suc, lt-of-not-le}
+use native.Mathlib.Nat.{not-le-of-lt}
 use native.Mathlib.Omega.{arith}
 use mathlib.Core.Path.{_≡_, subst}
 use mathlib.Core.Logic.{_↔_, _⊎_, inl, inr, ⊎-elim, Iff·trans}
@@ -15,7 +15,7 @@ use Rattle.model.specs.Shelf.{exists}
 use Rattle.model.specs.Sources.{supported}
 use Rattle.model.proofs.Laws.Checks.{done-iff, outcome-taken}
 use Rattle.model.proofs.Laws.Lowest.{none-given}
-use Rattle.model.proofs.Laws.Tests.{both-iff, either-iff, or-iff, not-not-iff, eqb-iff, ltb-iff, check-map}
+use Rattle.model.proofs.Laws.Tests.{both-iff, either-iff, or-iff, not-not-iff, eqb-iff, ltb-iff, not-above, check-map}
 use Rattle.model.proofs.Plain.Sources.{zero-unsupported}
 
 -- H9: "amount above FFh for 2Bh, or above FFFFh for 2Ch"
@@ -43,9 +43,6 @@ source-iff source = (
       (λ unsupported. T-not (supported source) unsupported t)
       (or-iff (eqb source 0x00) (not (supported source)) .0 bad),
 )
-
-not-above : {m n : ℕ} → (m < n → ⊥) → n ≤ m
-not-above h = le-of-suc-le-suc (lt-of-not-le h)
 
 amounts-iff : (source amount : ℕ)
     → (T (amountTooLarge source amount) → ⊥)

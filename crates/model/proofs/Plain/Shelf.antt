@@ -1,5 +1,5 @@
--- What a changed part leaves alone: a change of phy p leaves every other phy, the table and the counts under FFh; a change of these leaves
--- every phy. Assumes nothing.
+-- What a change of phy p leaves alone: every other phy, the phy number, the table, the identifier and the counts under FFh. A change of
+-- these counts leaves the phy number, the table and the identifier. Assumes nothing.
 use Prim.Native.Nat.{ℕ, _<_}
 use mathlib.Core.Path.{_≡_, refl}
 use lib.ListN.{length}
@@ -37,21 +37,9 @@ module _ (s : Shelf) (p : ℕ) (x : Phy) (count : ℕ) where
   pub put-other : (q : ℕ) → (q ≡ p → ⊥) → phyAt (put s p x count) q ≡ phyAt s q
   put-other q apart = getD-set-other (s .phys) p q x noPhy apart
 
-  pub put-count : put s p x count .changes ≡ count
-  put-count = refl
-
-  pub put-device-counts : (put s p x count .expander3 ≡ s .expander3) × (put s p x count .ses0 ≡ s .ses0)
-  put-device-counts = (refl, refl)
-
   pub put-only : OnlyPhy s p (put s p x count)
   put-only = record { fixed = put-fixed; others = put-other; expander3 = refl; ses0 = refl }
 
 module _ (s : Shelf) (expander3 ses0 : ℕ) where
   pub device-fixed : SameFixed s (putDevice s expander3 ses0)
   device-fixed = record { number = refl; table = refl; identifier = refl }
-
-  pub device-phys : (putDevice s expander3 ses0 .phys ≡ s .phys) × (putDevice s expander3 ses0 .changes ≡ s .changes)
-  device-phys = (refl, refl)
-
-  pub device-counts : (putDevice s expander3 ses0 .expander3 ≡ expander3) × (putDevice s expander3 ses0 .ses0 ≡ ses0)
-  device-counts = (refl, refl)
