@@ -75,6 +75,7 @@ pub enum Request {
     ReportGeneral,
     ReportManufacturer,
     ReportBroadcast {
+        // the broadcast type; "type" is a word of the language
         kind: u8,
     },
     ReportPhyErrorLog {

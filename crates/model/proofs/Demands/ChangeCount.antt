@@ -16,7 +16,7 @@ use Rattle.model.specs.Tests.{given}
 use Rattle.model.proofs.Laws.Checks.{every-outcome}
 use Rattle.model.proofs.Laws.PhyChanges.{moved, Changes, event-changes, change-changes, configured-changes}
 use Rattle.model.proofs.Laws.PhyChanges.{controlled-changes}
-use Rattle.model.proofs.Laws.Steps.{Step, Stays, Moves, Notes, KeptBy, next-step}
+use Rattle.model.proofs.Laws.Steps.{Step, Stays, ChangesPhy, CountsNotice, KeptBy, next-step}
 use Rattle.model.proofs.Plain.Shelf.{put-same, put-other}
 
 -- ---- Every operation: the change count and the Change count of one phy that exists are originated together, or neither is; and no
@@ -53,7 +53,7 @@ still s t phys count =
 
 step-together : (s t : Shelf) → Step Changes s t → Together s t
 step-together s t (Stays e) = still s t (ap (λ u. u .phys) e) (ap (λ u. u .changes) e)
-step-together s t (Moves p f moves placed changes e) =
+step-together s t (ChangesPhy p f moves placed changes e) =
     let x : Phy = phyAt s p in
     let n : ℕ = moved (moves x) (s .changes) in
     rw e
@@ -65,7 +65,7 @@ step-together s t (Moves p f moves placed changes e) =
       here = λ h. ap (λ y. y .change0) (put-same s p (f x) n h) ∙ changes x;
       others = λ q apart. ap (λ y. y .change0) (put-other s p (f x) n q apart);
     })
-step-together s t (Notes a b e) = still s t (ap (λ u. u .phys) e) (ap (λ u. u .changes) e)
+step-together s t (CountsNotice a b e) = still s t (ap (λ u. u .phys) e) (ap (λ u. u .changes) e)
 
 pub next-together : (s : Shelf) (operation : Operation) → Together s (next s operation)
 next-together s operation = step-together s (next s operation) (next-step Changes s operation (all-change operation))

@@ -61,10 +61,10 @@ module _ (g : ℕ) (s : Shelf) where
       control : functionOf frame ≡ 0x91 → looks g (effect s frame (asked frame)) ≡ looks g s
       control e =
           let no-reset : eqb (byte frame 10) 0x01 ≡ false =
-          ne-eqb (byte frame 10) 0x01 (λ same. crossed .no-link-control (crossed .about, e, List·Memᴰ·head same)) in
+          ne-eqb (byte frame 10) 0x01 (λ same. crossed .no-reset-or-disable (crossed .about, e, List·Memᴰ·head same)) in
           let no-disable : eqb (byte frame 10) 0x03 ≡ false =
           ne-eqb (byte frame 10) 0x03
-          (λ same. crossed .no-link-control (crossed .about, e, List·Memᴰ·tail (List·Memᴰ·head same))) in
+          (λ same. crossed .no-reset-or-disable (crossed .about, e, List·Memᴰ·tail (List·Memᴰ·head same))) in
           rw (asked-91 frame e, quiet-count (byte frame 10) no-reset no-disable (phyAt s (byte frame 9)))
           (looks-stays g s (byte frame 9) (controlled (byte frame 10)) (quiet-inner (byte frame 10) no-reset no-disable) out)
 

@@ -118,15 +118,15 @@ module _ (s : Shelf) (g : ℕ) (frame out : List ℕ) (answered : NotRefused s g
 -- ---- the full effect, or none at all
 
 -- t is the shelf afterwards
-pub record FullOrNone (Passes : Type 0) (Full : Shelf → Type 0) (s t : Shelf) : Type 0 where
-  pub full : Passes → Full t
-  pub none : (Passes → ⊥) → t ≡ s
+pub record FullOrNone (Passing : Type 0) (Full : Shelf → Type 0) (s t : Shelf) : Type 0 where
+  pub full : Passing → Full t
+  pub none : (Passing → ⊥) → t ≡ s
 
 -- of a request that is accepted exactly when it passes, and whose effect is full
-full-or-none : (s : Shelf) (g : ℕ) (frame out : List ℕ) {Passes : Type 0} {Full : Shelf → Type 0}
-    → NotRefused s g frame out → (byte (lentAfter s g frame out) 2 ≡ 0x00) ↔ Passes
-    → (Passes → Full (effect s frame (asked frame)))
-    → FullOrNone Passes Full s (served s g frame out .shelf)
+full-or-none : (s : Shelf) (g : ℕ) (frame out : List ℕ) {Passing : Type 0} {Full : Shelf → Type 0}
+    → NotRefused s g frame out → (byte (lentAfter s g frame out) 2 ≡ 0x00) ↔ Passing
+    → (Passing → Full (effect s frame (asked frame)))
+    → FullOrNone Passing Full s (served s g frame out .shelf)
 full-or-none s g frame out {Full = Full} answered passes full =
     record {
       full = λ yes-all.
