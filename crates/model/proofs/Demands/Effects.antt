@@ -16,7 +16,7 @@ use Rattle.model.specs.declared.Phy.{Phy}
 use Rattle.model.specs.declared.Request.the-variants.{PhyControl, ConfigurePhyEvent}
 use Rattle.model.specs.declared.Shelf.{Shelf}
 use Rattle.model.specs.Bytes.{byte}
-use Rattle.model.specs.Counting.{originate, withValue, changeOn}
+use Rattle.model.specs.Counting.{originate, originateIf, withValue, changeOn}
 use Rattle.model.specs.Reply.{monitorAt}
 use Rattle.model.specs.Request.{descriptorSource, descriptorThreshold}
 use Rattle.model.specs.Shelf.{noPhy, phyAt, monitor, phyWith, shelfWith, freshMonitor}
@@ -265,14 +265,14 @@ module _ (frame : List ℕ) (x : Phy) where
 
   configured-is : configured frame (byte frame 11) (clears frame) x
       ≡ withMonitors x monitorsAfter
-      (cond (clears frame && anyPeak monitorsAfter) (originate (x .expander2)) (x .expander2))
+      (originateIf (clears frame && anyPeak monitorsAfter) (x .expander2))
   unfolding configured setOn clearOn
   configured-is = go (clears frame)
     where
       go : (clear : Bool)
           → cond clear (clearOn (setOn frame (byte frame 11) x)) (setOn frame (byte frame 11) x)
           ≡ withMonitors x (clearedIf clear monitorsSet)
-          (cond (clear && anyPeak (clearedIf clear monitorsSet)) (originate (x .expander2)) (x .expander2))
+          (originateIf (clear && anyPeak (clearedIf clear monitorsSet)) (x .expander2))
       go true = rw cleared-peaks
       go false = refl
 
@@ -311,7 +311,7 @@ configured-effect s frame expected p h =
 -- no two shelves are left by one 93h: its monitors are settled one by one, and they settle Expander 2h
 expander2-is : {s t : Shelf} {p : ℕ} {frame : List ℕ} → Configured s p frame t
     → phyAt t p .expander2
-    ≡ cond (clears frame && anyPeak (phyAt t p .monitors)) (originate (phyAt s p .expander2)) (phyAt s p .expander2)
+    ≡ originateIf (clears frame && anyPeak (phyAt t p .monitors)) (phyAt s p .expander2)
 expander2-is {s} {t} {p} {frame} c =
     let finds = finds-iff frame (phyAt t p .monitors) in
     cond-iff (clears frame && anyPeak (phyAt t p .monitors)) _ (originate (phyAt s p .expander2)) (phyAt s p .expander2) .1 (

@@ -8,18 +8,16 @@ use mathlib.Core.Bool.{not, _||_}
 use mathlib.Core.List.{List, [], _∷_}
 use lib.Dec.{T, ltb, eqb}
 use lib.ListN.{length, getD}
-use Rattle.model.specs.declared.House.the-variants.{NoSuchPhy}
 use Rattle.model.specs.declared.Shelf.{Shelf}
-use Rattle.model.specs.declared.Taken.the-variants.{Done, NotDone}
 use Rattle.model.specs.Bytes.{byte}
 use Rattle.model.specs.House.{takenNumber, answerNumber, queryNumber}
 use Rattle.model.specs.Reach.{reachQuery}
-use Rattle.model.specs.Reports.{amountTooLarge, eventTaken, event, linkChange}
+use Rattle.model.specs.Reports.{amountTooLarge, eventTaken, event, linkChangeTaken, linkChange}
 use Rattle.model.specs.Request.{badFrame}
 use Rattle.model.specs.Server.{Handled, answer, lent, served, lentAfter}
 use Rattle.model.specs.Shelf.{exists, noShelf, groupsFit, startTaken, start}
 use Rattle.model.specs.Sources.{supported}
-use Rattle.model.specs.Tests.{given, within}
+use Rattle.model.specs.Tests.{within}
 use Rattle.model.specs.Zone.{zoneGroup, legalTable}
 use Rattle.model.proofs.Laws.Checks.{outcome-taken, outcome-stays}
 use Rattle.model.proofs.Laws.Handled.{concluded, handled, concluded-all, handled-all}
@@ -164,4 +162,4 @@ event-refusal s p source amount = rw outcome-taken (outcome-stays (eventTaken (e
 
 pub link-change-refusal : (s : Shelf) (p : ℕ) → 1 ≤ takenNumber (linkChange s p .taken) → linkChange s p .shelf ≡ s
 unfolding linkChange
-link-change-refusal s p = rw outcome-taken (outcome-stays (given (not (exists s p)) (NotDone NoSuchPhy) Done) s _)
+link-change-refusal s p = rw outcome-taken (outcome-stays (linkChangeTaken (exists s p)) s _)

@@ -6,25 +6,23 @@ use native.Mathlib.Nat.{eq-zero-or-pos}
 use native.Mathlib.Omega.{arith}
 use mathlib.Core.Path.{_≡_, refl, _∙_}
 use mathlib.Core.Logic.{⊎-elim}
-use mathlib.Core.Bool.{Bool, true, false, cond, not, _||_}
+use mathlib.Core.Bool.{Bool, true, false, cond, _||_}
 use mathlib.Core.List.{List, [], _∷_, List·Memᴰ·head, List·Memᴰ·tail}
 use lib.Dec.{T}
 use lib.ListN.{length}
-use Rattle.model.specs.declared.House.the-variants.{NoSuchPhy}
 use Rattle.model.specs.declared.Request.{Request}
 use Rattle.model.specs.declared.Request.the-variants.{ReportGeneral, ReportManufacturer, ReportBroadcast}
 use Rattle.model.specs.declared.Request.the-variants.{ReportPhyErrorLog, ReportPhyEvent, PhyControl, ConfigurePhyEvent}
 use Rattle.model.specs.declared.Shelf.{Shelf}
-use Rattle.model.specs.declared.Taken.the-variants.{Done, NotDone}
 use Rattle.model.specs.Bytes.{byte, word}
 use Rattle.model.specs.House.{answerNumber}
 use Rattle.model.specs.Reach.{reaches}
-use Rattle.model.specs.Reports.{eventTaken, event, linkChange, reducedFunctionality, sesNotice}
+use Rattle.model.specs.Reports.{eventTaken, event, linkChangeTaken, linkChange, reducedFunctionality, sesNotice}
 use Rattle.model.specs.Request.{functionOf, known, lengthRight, asked}
 use Rattle.model.specs.Results.{resultCode, accepted, countRight, checkOperation, checkDescriptors, resultOf, decide}
 use Rattle.model.specs.Server.{served, lentAfter}
 use Rattle.model.specs.Shelf.{exists, phyAt}
-use Rattle.model.specs.Tests.{check, given, oneOf}
+use Rattle.model.specs.Tests.{check, oneOf}
 use Rattle.model.specs.Writes.{effect}
 use Rattle.model.proofs.Demands.Refusals.{request-refusal}
 use Rattle.model.proofs.Demands.Results.{Of, NotRefused, verdict-checks, result-byte, Failed, failed-result}
@@ -139,7 +137,7 @@ event-only s p source amount =
 pub link-change-only : (s : Shelf) (p : ℕ) → OnlyPhy s p (linkChange s p .shelf)
 unfolding linkChange
 link-change-only s p =
-    every-outcome (OnlyPhy s p) (given (not (exists s p)) (NotDone NoSuchPhy) Done) s _ (same-only s p) (λ done. put-only s p _ _)
+    every-outcome (OnlyPhy s p) (linkChangeTaken (exists s p)) s _ (same-only s p) (λ done. put-only s p _ _)
 
 pub notices-elsewhere : (s : Shelf) → (reducedFunctionality s .phys ≡ s .phys) × (sesNotice s .phys ≡ s .phys)
 unfolding reducedFunctionality sesNotice

@@ -45,15 +45,15 @@ draws-first tests failures (tell {test = false} {There = There} says telling) co
 abbrev pub AllPass : List (ℕ × Bool) → Type 0
 AllPass = All (λ test. T (test .1))
 
-abbrev pub coded : List (ℕ × Bool) → Bool
-coded [] = true
-coded (test ∷ tests) = ltb 0x00 (test .0) && coded tests
+abbrev pub noCode00 : List (ℕ × Bool) → Bool
+noCode00 [] = true
+noCode00 (test ∷ tests) = ltb 0x00 (test .0) && noCode00 tests
 
-pub passes-all : (tests : List (ℕ × Bool)) → T (coded tests) → (firstFailure tests ≡ 0x00) ↔ AllPass tests
+pub passes-all : (tests : List (ℕ × Bool)) → T (noCode00 tests) → (firstFailure tests ≡ 0x00) ↔ AllPass tests
 passes-all [] t = (λ e. tt, λ all. refl)
 passes-all ((c, true) ∷ tests) t =
-    let later = passes-all tests (and-iff (ltb 0x00 c) (coded tests) .0 t .1) in
+    let later = passes-all tests (and-iff (ltb 0x00 c) (noCode00 tests) .0 t .1) in
     (λ e. (tt, later .0 e), λ all. later .1 (all .1))
 passes-all ((c, false) ∷ tests) t =
-    let some : 0x00 < c = ltb-iff 0x00 c .0 (and-iff (ltb 0x00 c) (coded tests) .0 t .0) in
+    let some : 0x00 < c = ltb-iff 0x00 c .0 (and-iff (ltb 0x00 c) (noCode00 tests) .0 t .0) in
     (λ e. absurd (omega arith), λ all. absurd (all .0))

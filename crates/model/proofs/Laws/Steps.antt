@@ -2,29 +2,26 @@
 -- phy keeps, every operation keeps. Assumes nothing.
 use Prim.Native.Nat.{ℕ}
 use mathlib.Core.Path.{_≡_, refl, _∙_}
-use mathlib.Core.Bool.{Bool, true, false, not}
+use mathlib.Core.Bool.{Bool, true, false}
 use mathlib.Core.List.{List}
 use lib.Dec.{T}
 use lib.ListN.{length, length-set}
-use Rattle.model.specs.declared.House.the-variants.{NoSuchPhy}
 use Rattle.model.specs.declared.Phy.{Phy}
 use Rattle.model.specs.declared.Request.{Request}
 use Rattle.model.specs.declared.Request.the-variants.{ReportGeneral, ReportManufacturer, ReportBroadcast}
 use Rattle.model.specs.declared.Request.the-variants.{ReportPhyErrorLog, ReportPhyEvent, PhyControl, ConfigurePhyEvent}
 use Rattle.model.specs.declared.Shelf.{Shelf}
-use Rattle.model.specs.declared.Taken.the-variants.{Done, NotDone}
-use Rattle.model.specs.Counting.{eventOn, changeOn}
+use Rattle.model.specs.Counting.{originateIf, eventOn, changeOn}
 use Rattle.model.specs.Reach.{reaches}
-use Rattle.model.specs.Reports.{eventTaken, event, linkChange, reducedFunctionality, sesNotice}
+use Rattle.model.specs.Reports.{eventTaken, event, linkChangeTaken, linkChange, reducedFunctionality, sesNotice}
 use Rattle.model.specs.Request.{asked}
 use Rattle.model.specs.Results.{accepted, countRight, checkOperation, checkDescriptors, resultOf, decide}
 use Rattle.model.specs.Runs.{Operation, Ask, Event, LinkChange, ReducedFunctionality, Ses, QueryReach, next}
 use Rattle.model.specs.Shelf.{noPhy, exists, phyAt, put, putDevice}
-use Rattle.model.specs.Tests.{given}
 use Rattle.model.specs.Writes.{controlled, controlChanges, configured, effect}
 use Rattle.model.proofs.Laws.Checks.{outcome-taken, every-outcome, write-passed}
 use Rattle.model.proofs.Laws.Handled.{handled-all, accepted-decided}
-use Rattle.model.proofs.Laws.PhyChanges.{moved, event-inner, change-inner, configured-inner, controlled-inner}
+use Rattle.model.proofs.Laws.PhyChanges.{event-inner, change-inner, configured-inner, controlled-inner}
 use Rattle.model.proofs.Laws.Places.{change-at}
 use Rattle.model.proofs.Plain.Reports.{event-done, link-change-done}
 use Rattle.model.proofs.Plain.Shelf.{SameFixed, same-fixed, put-fixed, device-fixed}
@@ -33,8 +30,8 @@ use Rattle.model.proofs.Plain.Shelf.{SameFixed, same-fixed, put-fixed, 
 pub data Step (Keeps : (Phy → Phy) → (Phy → Bool) → Type 0) (s t : Shelf) : Type 0 where
   Stays : t ≡ s → Step Keeps s t
   ChangesPhy : (p : ℕ) (f : Phy → Phy) (moves : Phy → Bool) → T (exists s p) → Keeps f moves
-      → t ≡ put s p (f (phyAt s p)) (moved (moves (phyAt s p)) (s .changes)) → Step Keeps s t
-  CountsNotice : (a b : Bool) → t ≡ putDevice s (moved a (s .expander3)) (moved b (s .ses0)) → Step Keeps s t
+      → t ≡ put s p (f (phyAt s p)) (originateIf (moves (phyAt s p)) (s .changes)) → Step Keeps s t
+  CountsNotice : (a b : Bool) → t ≡ putDevice s (originateIf a (s .expander3)) (originateIf b (s .ses0)) → Step Keeps s t
 
 -- what is asked of the changes that an operation may make
 abbrev pub KeptBy : ((Phy → Phy) → (Phy → Bool) → Type 0) → Operation → Type 0
@@ -72,7 +69,7 @@ module _ (Keeps : (Phy → Phy) → (Phy → Bool) → Type 0) (s : Shelf) where
       every-outcome (Step Keeps s) (eventTaken (exists s p) source amount) s _ (Stays refl)
       (λ done. ChangesPhy p (eventOn source amount) (λ x. false) (event-done s p source amount .0 done .phy-exists) keeps refl)
   next-step (LinkChange p) keeps =
-      every-outcome (Step Keeps s) (given (not (exists s p)) (NotDone NoSuchPhy) Done) s _ (Stays refl)
+      every-outcome (Step Keeps s) (linkChangeTaken (exists s p)) s _ (Stays refl)
       (λ done.
       ChangesPhy p (λ x. changeOn (x .enabled) x) (λ x. true) (link-change-done s p .0 (outcome-taken _ s _ ∙ done)) keeps refl)
   next-step ReducedFunctionality keeps = CountsNotice true false refl
@@ -83,8 +80,8 @@ module _ (Keeps : (Phy → Phy) → (Phy → Bool) → Type 0) (s : Shelf) where
 pub step-fixed : (Keeps : (Phy → Phy) → (Phy → Bool) → Type 0) (s t : Shelf) → Step Keeps s t → SameFixed s t
 step-fixed Keeps s t (Stays e) = rw e (same-fixed s)
 step-fixed Keeps s t (ChangesPhy p f moves there keeps e) =
-    rw e (put-fixed s p (f (phyAt s p)) (moved (moves (phyAt s p)) (s .changes)))
-step-fixed Keeps s t (CountsNotice a b e) = rw e (device-fixed s (moved a (s .expander3)) (moved b (s .ses0)))
+    rw e (put-fixed s p (f (phyAt s p)) (originateIf (moves (phyAt s p)) (s .changes)))
+step-fixed Keeps s t (CountsNotice a b e) = rw e (device-fixed s (originateIf a (s .expander3)) (originateIf b (s .ses0)))
 
 -- What holds between a phy and itself, and still after each change, holds between each phy before the step and after it.
 pub step-phys : (Keeps : (Phy → Phy) → (Phy → Bool) → Type 0) (R : Phy → Phy → Type 0) → ((x : Phy) → R x x)
@@ -99,9 +96,9 @@ step-phys Keeps R same on s t (CountsNotice a b e) q = rw e (same (phyAt s q))
 -- There are as many phys as before, and each device wide count is originated, or not.
 pub record Counts (s t : Shelf) : Type 0 where
   pub size : length (t .phys) ≡ length (s .phys)
-  pub changes : (b : Bool) × (t .changes ≡ moved b (s .changes))
-  pub expander3 : (b : Bool) × (t .expander3 ≡ moved b (s .expander3))
-  pub ses0 : (b : Bool) × (t .ses0 ≡ moved b (s .ses0))
+  pub changes : (b : Bool) × (t .changes ≡ originateIf b (s .changes))
+  pub expander3 : (b : Bool) × (t .expander3 ≡ originateIf b (s .expander3))
+  pub ses0 : (b : Bool) × (t .ses0 ≡ originateIf b (s .ses0))
 
 pub step-counts : (Keeps : (Phy → Phy) → (Phy → Bool) → Type 0) (s t : Shelf) → Step Keeps s t → Counts s t
 step-counts Keeps s t (Stays e) =
@@ -145,7 +142,7 @@ group-kept : (operation : Operation) → KeptBy KeepsGroup operation
 group-kept (Ask g frame out) =
     (λ operation. controlled-inner operation .group, λ d clear. configured-inner frame d clear .group)
 group-kept (Event p source amount) = event-inner source amount .group
-group-kept (LinkChange p) = change-inner (λ b. b) .group
+group-kept (LinkChange p) = change-inner .group
 group-kept ReducedFunctionality = tt
 group-kept Ses = tt
 group-kept (QueryReach g) = tt
