@@ -34,7 +34,7 @@ use Rattle.model.proofs.Laws.Handled.{verdict, sent-all, accepted-decid
 use Rattle.model.proofs.Laws.Join.{join-few}
 use Rattle.model.proofs.Laws.Places.{All, all-each, each-all, cut-each, sets-each, sets-before, replicate-each}
 use Rattle.model.proofs.Laws.Tests.{cond-both}
-use Rattle.model.proofs.Plain.Reply.{broadcast-bytes-length, listed-iff, kept-small}
+use Rattle.model.proofs.Plain.Reply.{broadcast-bytes-length, ofPhy, listed-iff, kept-small}
 use Rattle.model.proofs.Plain.Request.{by-function}
 
 -- "Response byte 0 is 41h, byte 1 the function, byte 2 the result, byte 3 the number of dwords that follow."
@@ -81,10 +81,9 @@ phy-few kind p x =
 pub broadcasts-few : (s : Shelf) (g kind : ℕ) → length (broadcasts s g kind) ≤ 49
 unfolding broadcasts
 broadcasts-few s g kind =
-    let of : ℕ → List Broadcast = λ p. cond (reaches s g p) (phyListed kind p (phyAt s p)) [] in
-    let few : (p : ℕ) → AtMost 2 (of p) =
+    let few : (p : ℕ) → AtMost 2 (ofPhy s g kind p) =
     λ p. cond-both (AtMost 2) (reaches s g p) _ _ (phy-few kind p (phyAt s p)) zero-le in
-    simp length-append (omega (arith, device-few kind (s .expander3) (s .ses0), join-few (phyNumber s) 2 of few))
+    simp length-append (omega (arith, device-few kind (s .expander3) (s .ses0), join-few (phyNumber s) 2 (ofPhy s g kind) few))
 
 -- ---- the head and the length
 

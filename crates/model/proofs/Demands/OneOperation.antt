@@ -29,6 +29,7 @@ use Rattle.model.proofs.Demands.Looks.{looks, looks-reaches, looks-reac
 use Rattle.model.proofs.Laws.Checks.{both-outcomes, read-passed}
 use Rattle.model.proofs.Laws.Handled.{verdict, both-handled, both-concluded, accepted-decided}
 use Rattle.model.proofs.Laws.PhyChanges.{enablesBy, event-inner, change-inner, configured-inner, controlled-inner}
+use Rattle.model.proofs.Plain.Reply.{ofPhy}
 
 -- ---- judging
 
@@ -66,8 +67,7 @@ module _ (g : ℕ) (s : Shelf) where
   unfolding broadcasts deviceListed
   looks-broadcasts kind = ap (λ of. deviceListed kind (s .expander3) (s .ses0) ++ joinBelow (phyNumber s) of) (fun-ext each)
     where
-      each : (p : ℕ) → cond (reaches (looks g s) g p) (phyListed kind p (phyAt (looks g s) p)) []
-          ≡ cond (reaches s g p) (phyListed kind p (phyAt s p)) []
+      each : (p : ℕ) → ofPhy (looks g s) g kind p ≡ ofPhy s g kind p
       each p = rw (looks-reaches g s g p) (go (reaches s g p) refl)
         where
           go : (b : Bool) → reaches s g p ≡ b

@@ -14,12 +14,13 @@ use Rattle.model.specs.declared.Monitor.{Monitor}
 use Rattle.model.specs.declared.Phy.{Phy}
 use Rattle.model.specs.declared.Shelf.{Shelf}
 use Rattle.model.specs.Reach.{reaches}
-use Rattle.model.specs.Reply.{Broadcast, eventDescriptor, broadcastBytes, listed, deviceListed, phyListed}
-use Rattle.model.specs.Reply.{broadcasts}
+use Rattle.model.specs.Reply.{Broadcast, eventDescriptor, broadcastBytes, entry, listed, deviceListed, phyListed}
+use Rattle.model.specs.Reply.{seenListed, broadcasts}
 use Rattle.model.specs.Shelf.{phyNumber, exists, phyAt}
 use Rattle.model.specs.Tests.{joinBelow}
+use Rattle.model.specs.Zone.{row}
 use Rattle.model.proofs.Laws.Join.{join-has, has-join, join-rising}
-use Rattle.model.proofs.Laws.Picked.{onlyIf, onlyIf-iff}
+use Rattle.model.proofs.Laws.Picked.{onlyIf-iff}
 use Rattle.model.proofs.Laws.Rising.{Rising, rising-one, rising-append}
 use Rattle.model.proofs.Laws.Tests.{ltb-iff, cond-both}
 
@@ -31,9 +32,6 @@ pub broadcast-bytes-length : (bs : List Broadcast) → length (broadcastBytes bs
 unfolding broadcastBytes
 broadcast-bytes-length [] = refl
 broadcast-bytes-length (b ∷ bs) = omega (arith, broadcast-bytes-length bs)
-
-abbrev pub entry : ℕ → ℕ → ℕ → Broadcast
-entry p r n = record { phy = p; reason = r; count = n }
 
 -- The broadcast counts that a shelf keeps, each under its type, its phy or FFh, and its reason: "Per phy: .. Change reason 0h,
 -- Expander 1h and 2h", "Device wide: .. Expander 3h (reduced functionality) and SES 0h". Change is type 0h, SES 3h, Expander 4h.
@@ -124,8 +122,8 @@ phy-has s kind q p r n there m =
     (chosen kind 0x0 (listed q 0x0 (phyAt s q .change0)) (cond (eqb kind 0x4) (first ++ second) []) m)
 
 -- what one phy gives to a source
-abbrev ofPhy : Shelf → ℕ → ℕ → ℕ → List Broadcast
-ofPhy s g kind p = onlyIf (reaches s g p) (phyListed kind p (phyAt s p))
+abbrev pub ofPhy : Shelf → ℕ → ℕ → ℕ → List Broadcast
+ofPhy s g kind p = seenListed (row (s .table) g) kind p (phyAt s p)
 
 broadcasts-has : (s : Shelf) (g kind p r n : ℕ) → List·Memᴰ (entry p r n) (broadcasts s g kind)
     → Kept s kind p r n × Sees s g p × (n ≡ 0 → ⊥)
