@@ -2,9 +2,8 @@
 use Prim.Native.Nat.{_≤_}
 use native.Mathlib.Omega.{arith}
 use mathlib.Core.Path.{_≡_, refl}
-use mathlib.Core.Logic.{_↔_, Iff·trans}
-use mathlib.Core.Bool.{Bool, true, false, not, false≢true}
-use lib.Dec.{T}
+use mathlib.Core.Logic.{_↔_}
+use mathlib.Core.Bool.{Bool, true, false, false≢true}
 use Rattle.model.specs.declared.FunctionResult.{FunctionResult}
 use Rattle.model.specs.declared.House.{House}
 use Rattle.model.specs.declared.House.the-variants.{PhyNumber, PhyGroup, IllegalTable, SourceGroup, ShortBuffer}
@@ -15,11 +14,6 @@ use Rattle.model.specs.declared.Taken.the-variants.{Done, NotDone}
 use Rattle.model.specs.House.{houseNumber, takenNumber}
 use Rattle.model.specs.Results.{accepted, checkRead, checkWrite}
 use Rattle.model.specs.Shelf.{outcome}
-use Rattle.model.proofs.Laws.Tests.{not-not-iff}
-
--- a condition that says "not .." is false exactly if what stands behind the "not" holds
-pub unless-iff : (a : Bool) {A : Type 0} → T a ↔ A → (T (not a) → ⊥) ↔ A
-unless-iff a f = Iff·trans (not-not-iff a) f
 
 -- every house refusal has a number from 1 on
 pub house-some : (house : House) → 1 ≤ houseNumber house

@@ -48,6 +48,10 @@ is-false false no-a = refl
 pub denied-iff : (a : Bool) {A : Type 0} → T a ↔ A → T (not a) ↔ (A → ⊥)
 denied-iff a f = (λ t x. T-not a t (f .1 x), λ no-a. not-T a (λ t. no-a (f .0 t)))
 
+-- .. and that the denial is false, exactly if what the test says holds
+pub unless-iff : (a : Bool) {A : Type 0} → T a ↔ A → (T (not a) → ⊥) ↔ A
+unless-iff a f = Iff·trans (not-not-iff a) f
+
 -- that a test fails which is asked only under a condition, from what both say
 pub fails-under-iff : (m a : Bool) {M A : Type 0} → T m ↔ M → T a ↔ A → (T (not m || a) → ⊥) ↔ (M × (A → ⊥))
 fails-under-iff true a f g = (λ no-t. (f .0 tt, Iff·not g .0 no-t), λ h. Iff·not g .1 (h .1))

@@ -12,10 +12,10 @@ use Rattle.model.specs.House.{takenNumber}
 use Rattle.model.specs.Shelf.{phyAt, noPhy, freshPhy, startGroup, freshShelf, groupsFit, startTaken}
 use Rattle.model.specs.Tests.{within}
 use Rattle.model.specs.Zone.{zoneGroup, legalTable}
-use Rattle.model.proofs.Laws.Checks.{unless-iff, done-iff}
+use Rattle.model.proofs.Laws.Checks.{done-iff}
 use Rattle.model.proofs.Laws.Join.{join-at}
 use Rattle.model.proofs.Laws.Lowest.{none-given}
-use Rattle.model.proofs.Laws.Tests.{within-iff, leb-iff, allBelow-iff, check-map}
+use Rattle.model.proofs.Laws.Tests.{unless-iff, within-iff, leb-iff, allBelow-iff, check-map}
 use Rattle.model.proofs.Plain.Zone.{LegalTable, legal-table}
 
 -- none of H1, H2 and H3 applies
