@@ -3,7 +3,7 @@
 use Prim.Native.Nat.{ℕ, _≤_, _<_}
 use native.Mathlib.Omega.{arith}
 use mathlib.Core.Path.{_≡_, refl}
-use mathlib.Core.Logic.{_↔_, _⊎_, Iff·trans}
+use mathlib.Core.Logic.{_↔_, _⊎_, Iff·rfl, Iff·trans}
 use mathlib.Core.Bool.{not, _||_}
 use mathlib.Core.List.{List, [], _∷_}
 use lib.Dec.{T, ltb, eqb}
@@ -116,10 +116,10 @@ event-gives s p source amount =
     (eventRefusals s p source amount)
     7
     (omega arith) (
-      denied-iff (exists s p) (λ t. t, λ t. t),
+      denied-iff (exists s p) Iff·rfl,
       (
         either-iff (eqb source 0x00) (not (supported source)) (eqb-iff source 0x00)
-            (denied-iff (supported source) (λ t. t, λ t. t)),
+            (denied-iff (supported source) Iff·rfl),
         (amount-iff source amount, tt),
       ),
     )))
@@ -130,7 +130,7 @@ unfolding linkChange
 link-change-gives s p =
     rw outcome-taken
     (simp (check-map takenNumber)
-    (row-gives (not (exists s p) ∷ []) (phyRefusal s p ∷ []) 7 (omega arith) (denied-iff (exists s p) (λ t. t, λ t. t), tt)))
+    (row-gives (not (exists s p) ∷ []) (phyRefusal s p ∷ []) 7 (omega arith) (denied-iff (exists s p) Iff·rfl, tt)))
 
 pub query-gives : (s : Shelf) (g : ℕ) → Gives (sourceRefusal g ∷ []) 4 (queryNumber (reachQuery s g))
 unfolding reachQuery

@@ -47,7 +47,7 @@ strangerCode function lengthPasses countPasses there =
     (check there 0x10
     (cond read 0x16 0x20)))
 
--- the four that a frame gives on a shelf
+-- the code that a frame so draws on a shelf
 abbrev pub codeFor : Shelf → List ℕ → ℕ
 codeFor s frame =
     strangerCode (functionOf frame) (lengthRight frame) (countRight (s .changes) (word frame 4)) (exists s (byte frame 9))

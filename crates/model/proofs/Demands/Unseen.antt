@@ -14,11 +14,10 @@ use Rattle.model.specs.Counting.{eventOn}
 use Rattle.model.specs.CrossedOut.{aboutPhy, linkResetOrDisable, crossedOut}
 use Rattle.model.specs.Reach.{reaches}
 use Rattle.model.specs.Reports.{eventTaken, event}
-use Rattle.model.specs.Request.{functionOf, asked}
+use Rattle.model.specs.Request.{functionOf, clears, asked}
 use Rattle.model.specs.Runs.{Operation, Ask, Event, LinkChange, ReducedFunctionality, Ses, QueryReach, next, told}
 use Rattle.model.specs.Shelf.{exists, phyAt}
 use Rattle.model.specs.Writes.{controlled, controlChanges, configured, effect}
-use Rattle.model.specs.Zone.{bit}
 use Rattle.model.proofs.Demands.Looks.{looks, looks-stays}
 use Rattle.model.proofs.Laws.Checks.{every-outcome}
 use Rattle.model.proofs.Laws.Handled.{handled-all}
@@ -71,8 +70,8 @@ module _ (g : ℕ) (s : Shelf) where
       configure : functionOf frame ≡ 0x93 → looks g (effect s frame (asked frame)) ≡ looks g s
       configure e =
           rw (asked-93 frame e)
-          (looks-stays g s (byte frame 9) (configured frame (byte frame 11) (bit (byte frame 6) 0))
-          (configured-inner frame (byte frame 11) (bit (byte frame 6) 0))
+          (looks-stays g s (byte frame 9) (configured frame (byte frame 11) (clears frame))
+          (configured-inner frame (byte frame 11) (clears frame))
           out)
 
   -- ---- every crossed-out operation

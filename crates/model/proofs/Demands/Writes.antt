@@ -137,7 +137,8 @@ full-or-none s g frame out {Full = Full} answered passes full =
           failed-result s g frame out (byte (lentAfter s g frame out) 2) answered refl some .stays;
     }
 
--- The full effect is that of a shelf whose array of phys has its 24 places, as every record has; that there is none asks nothing of it.
+-- The full effect is stated of a shelf whose array of phys has its 24 places, as every record has. That there is no effect needs no such
+-- condition.
 abbrev pub Placed : Shelf → Type 0
 Placed s = length (s .phys) ≡ 24
 

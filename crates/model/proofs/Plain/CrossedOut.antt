@@ -1,7 +1,7 @@
 -- What is crossed out for a group, in plain logic. Assumes nothing.
 use Prim.Native.Nat.{ℕ, _≤_}
 use mathlib.Core.Path.{_≡_}
-use mathlib.Core.Logic.{_↔_, Iff·trans}
+use mathlib.Core.Logic.{_↔_, Iff·rfl, Iff·trans}
 use mathlib.Core.Bool.{not, _&&_}
 use mathlib.Core.List.{List, [], _∷_, List·Memᴰ}
 use lib.Dec.{T, leb, eqb}
@@ -27,7 +27,7 @@ about-iff s frame =
     all-three-iff (oneOf (0x11 ∷ 0x14 ∷ 0x91 ∷ 0x93 ∷ []) (functionOf frame)) (leb 12 (length frame)) (exists s (byte frame 9))
     (oneOf-iff (0x11 ∷ 0x14 ∷ 0x91 ∷ 0x93 ∷ []) (functionOf frame))
     (leb-iff 12 (length frame))
-    (λ t. t, λ t. t)
+    Iff·rfl
 
 -- "a link reset or disable is such a 91h with byte 10 at 01h or 03h"
 abbrev pub LinkResetOrDisable : Shelf → List ℕ → Type 0
@@ -61,7 +61,7 @@ crossed-request-iff g s h frame out =
     (all-three-iff (not (eqb h g)) (aboutPhy s frame) (not (reaches s g (byte frame 9)))
     (denied-iff (eqb h g) (eqb-iff h g))
     (about-iff s frame)
-    (denied-iff (reaches s g (byte frame 9)) (λ t. t, λ t. t)))
+    (denied-iff (reaches s g (byte frame 9)) Iff·rfl))
     (denied-iff (linkResetOrDisable s frame) (link-reset-or-disable-iff s frame))) (
       λ c. record { of-another = c .0 .0; about = c .0 .1; unreached = c .0 .2; no-reset-or-disable = c .1 },
       λ r. ((r .of-another, r .about, r .unreached), r .no-reset-or-disable),
@@ -73,4 +73,4 @@ pub crossed-event-iff : (g : ℕ) (s : Shelf) (p source amount : ℕ)
     ↔ (T (exists s p) × (T (reaches s g p) → ⊥))
 unfolding crossedOut
 crossed-event-iff g s p source amount =
-    both-iff (exists s p) (not (reaches s g p)) (λ t. t, λ t. t) (denied-iff (reaches s g p) (λ t. t, λ t. t))
+    both-iff (exists s p) (not (reaches s g p)) Iff·rfl (denied-iff (reaches s g p) Iff·rfl)

@@ -1,19 +1,13 @@
 -- What a group gets in a run on shelf W: its own answers in their order, each with the whole lent buffer afterwards, and nothing of what
 -- others get. `proofs/Vectors` has the theorem.
-use Prim.Native.Nat.{ℕ}
 use mathlib.Core.List.{List, [], _∷_, _++_}
-use lib.ListN.{replicate}
 use Rattle.model.specs.declared.Answer.the-variants.{Response, NoResponse}
 use Rattle.model.specs.declared.House.the-variants.{SourceGroup, ShortBuffer}
 use Rattle.model.specs.declared.Reach.the-variants.{Reaches, NoReach}
 use Rattle.model.specs.Hex.{hex}
 use Rattle.model.specs.Runs.{Operation, Ask, Event, LinkChange, ReducedFunctionality, Ses, QueryReach, Told, Answered}
 use Rattle.model.specs.Runs.{Shown}
-use Rattle.model.specs.Vectors.Tools.{readPhyFrame, readBroadcastsFrame, controlFrame}
-
--- what stood in the lent buffer
-abbrev pub old : ℕ → List ℕ
-old n = replicate n 0xEE
+use Rattle.model.specs.Vectors.Tools.{readPhyFrame, readBroadcastsFrame, controlFrame, old}
 
 unfoldable pub mixed : List Operation
 mixed =

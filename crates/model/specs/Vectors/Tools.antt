@@ -2,6 +2,7 @@
 use Prim.Native.Nat.{ℕ}
 use mathlib.Core.Bool.{true, cond}
 use mathlib.Core.List.{List, [], _∷_, _++_}
+use lib.ListN.{replicate}
 use Rattle.model.specs.declared.Answer.{Answer}
 use Rattle.model.specs.declared.Answer.the-variants.{Response, NoResponse}
 use Rattle.model.specs.declared.Monitor.{Monitor}
@@ -37,6 +38,10 @@ configureFrame byte3 expected byte6 p d descriptors =
 -- a descriptor of a 93h: source, and the last byte of the threshold
 abbrev pub watch : ℕ → ℕ → List ℕ
 watch source threshold = 0x00 ∷ 0x00 ∷ 0x00 ∷ source ∷ 0x00 ∷ 0x00 ∷ 0x00 ∷ threshold ∷ []
+
+-- what stands in a lent buffer of n bytes
+abbrev pub old : ℕ → List ℕ
+old n = replicate n 0xEE
 
 -- ---- What is looked at: of phy 0, and of an answer
 
