@@ -9,8 +9,8 @@ use Rattle.model.specs.ShelfW.{shelfW}
 use Rattle.model.specs.Vectors.Tools.{readBroadcastsFrame, configureFrame, watch, monitors0, counts0, errors0, countsW}
 use Rattle.model.specs.Vectors.Tools.{fullW, watching}
 
-unfoldable pub easilyWrong : List Case
-easilyWrong =
+unfoldable pub easilyWrong1to4 : List Case
+easilyWrong1to4 =
     -- 1. wrapping monitors and saturating error counts: 02h counts to FFFFFFFEh, then 2 more
     on 1 shelfW
     (watching ∷ Event 0 0x02 0xFFFFFFFE ∷ Event 0 0x02 2 ∷ [])
@@ -45,8 +45,12 @@ easilyWrong =
     ∷ [])
     (Look monitors0)
     (Numbers (0x2D ∷ 7 ∷ 10 ∷ 0x2D ∷ 7 ∷ 11 ∷ 0x02 ∷ 0 ∷ 5 ∷ 0x00 ∷ 0 ∷ 0 ∷ []))
+    ∷ []
+
+unfoldable pub easilyWrong5 : List Case
+easilyWrong5 =
     -- 5. 06h lists to 8 the counts of phys 0, 1 and 3, and to 9 those of 2 and 3
-    ∷ on 5 countsW []
+    on 5 countsW []
     (Send 8 (readBroadcastsFrame 0x00))
     (Bytes
     (hex "41 06 00 07 00 01 00 03"

@@ -18,8 +18,9 @@ use Rattle.model.specs.Vectors.Tools.{monitors0, counts0, link0}
 abbrev pub groupsOf : Shelf → List ℕ
 groupsOf s = map (λ x. x .group) (s .phys)
 
-unfoldable pub starts : List Case
-starts =
+-- a fresh shelf, and the row test
+unfoldable pub freshStarts : List Case
+freshStarts =
     -- the phy number, the change count 0001h, and 0 under FFh; the identifier
     fresh 0
     (Look (λ s. s .number ∷ s .changes ∷ s .expander3 ∷ s .ses0 ∷ []))
@@ -44,8 +45,13 @@ starts =
     ∷ rowReaches 0x1FFFFFFFF 32
     ∷ [])))
     (Numbers (1 ∷ 1 ∷ 0 ∷ 1 ∷ 0 ∷ []))
+    ∷ []
+
+-- which starts are done, and which are refused
+unfoldable pub startsTaken : List Case
+startsTaken =
     -- 1 and 24 phys, group 31
-    ∷ fresh 0
+    fresh 0
     (Look
     (λ s. takenNumber (start 1 groupsW tableW identifierW .taken)
     ∷ takenNumber (start 24 groupsW tableW identifierW .taken)
