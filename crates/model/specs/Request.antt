@@ -63,6 +63,13 @@ asked frame =
     (cond (eqb (functionOf frame) 0x91) (PhyControl (word frame 4) (byte frame 9) (byte frame 10))
     (ConfigurePhyEvent (word frame 4) (clears frame) (byte frame 9) (byte frame 11)))))))
 
+unfoldable pub judge : List ℕ → Judged
+judge frame =
+    given (badFrame frame) (NoFrame BadFrame)
+    (check (known (functionOf frame)) (Fails UnknownSmpFunction)
+    (check (lengthRight frame) (Fails InvalidRequestFrameLength)
+    (Asked (asked frame))))
+
 -- the phy of a function that has one; a request without a phy names none, and nothing asks for it
 abbrev pub phyOf : Request → ℕ
 phyOf ReportGeneral = 0
@@ -72,13 +79,6 @@ phyOf (ReportPhyErrorLog p) = p
 phyOf (ReportPhyEvent p) = p
 phyOf (PhyControl expected p operation) = p
 phyOf (ConfigurePhyEvent expected clear p d) = p
-
-unfoldable pub judge : List ℕ → Judged
-judge frame =
-    given (badFrame frame) (NoFrame BadFrame)
-    (check (known (functionOf frame)) (Fails UnknownSmpFunction)
-    (check (lengthRight frame) (Fails InvalidRequestFrameLength)
-    (Asked (asked frame))))
 
 -- The descriptors of a 93h, 8 bytes each from byte 12 on: "3 source (00h allowed), 4 to 7 threshold".
 abbrev pub descriptorSource : List ℕ → ℕ → ℕ

@@ -199,6 +199,7 @@ module _ (frame : List ℕ) where
   configured-after {i} {m} {new} c =
       let (source, threshold) = named (ltb i (byte frame 11)) refl in
       let value : new .value ≡ cond (keeps (m .source) (new .source)) (m .value) 0 = valued _ _ refl refl in
+      -- an equation of monitors, from those of their fields
       rw (← source) (λ k. monitor (new .source) (value k) (threshold k))
     where
       named : (b : Bool) → ltb i (byte frame 11) ≡ b

@@ -138,7 +138,7 @@ response-framed s g frame room =
 abbrev Small : ℕ → Type 0
 Small n = n ≤ 0xFF
 
--- byte by byte, in two parts
+-- byte by byte, in two parts: `omega` goes into a goal no more than 32 parts deep
 fits-by : (bytes : List ℕ) → All Small (take 32 bytes) → All Small (drop 32 bytes) → BytesFit bytes
 fits-by bytes front back = cut-each Small 0x00 32 bytes front (all-each Small 0x00 (drop 32 bytes) zero-le back)
 

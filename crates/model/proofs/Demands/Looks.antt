@@ -39,13 +39,13 @@ abbrev hidden : ℕ → Bool → Phy
 hidden group enabled = phyWith (freshPhy group) enabled (noPhy .errors) (noPhy .monitors) 0 0 0
 
 module _ (r : ℕ) where
-  pub seen-reached : (x : Phy) → rowReaches r (x .group) ≡ true → seen r x ≡ x
+  seen-reached : (x : Phy) → rowReaches r (x .group) ≡ true → seen r x ≡ x
   seen-reached x e = rw e
 
   seen-hidden : (x : Phy) → rowReaches r (x .group) ≡ false → seen r x ≡ hidden (x .group) (x .enabled)
   seen-hidden x e = rw e
 
-  pub seen-none : seen r noPhy ≡ noPhy
+  seen-none : seen r noPhy ≡ noPhy
   seen-none = go (rowReaches r 0)
     where
       go : (b : Bool)
@@ -60,7 +60,7 @@ module _ (r : ℕ) where
       go false = refl
 
   -- how a change looks that keeps the group, and makes enabled or not by that alone, depends on how the phy looked
-  pub seen-change : (f : Phy → Phy) (enables : Bool → Bool) → Inner f enables → (x : Phy)
+  seen-change : (f : Phy → Phy) (enables : Bool → Bool) → Inner f enables → (x : Phy)
       → seen r (f (seen r x)) ≡ seen r (f x)
   seen-change f enables inner x = go (rowReaches r (x .group)) refl
     where
@@ -76,7 +76,7 @@ module _ (r : ℕ) where
       go false e = unseen (seen r x) refl refl e ∙ sym (unseen x refl refl e)
 
   -- and such a change that leaves it enabled or not as it was is not seen out of reach
-  pub seen-stays : (f : Phy → Phy) → Inner f (λ b. b) → (x : Phy) → rowReaches r (x .group) ≡ false
+  seen-stays : (f : Phy → Phy) → Inner f (λ b. b) → (x : Phy) → rowReaches r (x .group) ≡ false
       → seen r (f x) ≡ seen r x
   seen-stays f inner x out =
       seen-hidden (f x) (ap (rowReaches r) (inner .group x) ∙ out)
@@ -86,7 +86,7 @@ module _ (r : ℕ) where
 -- ---- the shelf
 
 module _ (g : ℕ) (s : Shelf) where
-  pub looks-phy : (p : ℕ) → phyAt (looks g s) p ≡ seen (row (s .table) g) (phyAt s p)
+  looks-phy : (p : ℕ) → phyAt (looks g s) p ≡ seen (row (s .table) g) (phyAt s p)
   looks-phy p =
       ap (λ d. getD (map (seen (row (s .table) g)) (s .phys)) p d) (sym (seen-none (row (s .table) g)))
       ∙ List·getD-map (seen (row (s .table) g)) (s .phys) p noPhy

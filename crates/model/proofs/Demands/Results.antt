@@ -150,7 +150,7 @@ checks-tell s g frame =
     nothing)))))))))
 
 -- The result of a request is the code of the first failure that is there, and 00h exactly if none is.
-pub verdict-drawn : (s : Shelf) (g : ℕ) (frame : List ℕ) (code : ℕ)
+verdict-drawn : (s : Shelf) (g : ℕ) (frame : List ℕ) (code : ℕ)
     → (resultCode (verdict s g frame) ≡ code)
     ↔ Draws (failures s g frame) code
 verdict-drawn s g frame code =

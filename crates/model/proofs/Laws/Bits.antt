@@ -29,7 +29,7 @@ powers-suc : (n : ℕ) (test : ℕ → Bool) → powers (suc n) test ≡ cond (t
 unfolding sumBelow
 powers-suc n test = above (test n) n (powers n test)
 
-pub powers-lt : (n : ℕ) (test : ℕ → Bool) → powers n test < 2 ^ n
+powers-lt : (n : ℕ) (test : ℕ → Bool) → powers n test < 2 ^ n
 unfolding sumBelow
 powers-lt zero test = omega arith
 powers-lt (suc n) test = grow (test n) (powers-lt n test)
@@ -84,7 +84,7 @@ bit-past : (x k : ℕ) → x < 2 ^ k → bit x k ≡ false
 bit-past x k fits = ap (λ (n : ℕ). eqb (n % 2) 1) (div-eq-of-lt fits)
 
 -- bit p, where p is below n, and where it is not
-pub bit-powers : (n : ℕ) (test : ℕ → Bool) (p : ℕ) → p < n → bit (powers n test) p ≡ test p
+bit-powers : (n : ℕ) (test : ℕ → Bool) (p : ℕ) → p < n → bit (powers n test) p ≡ test p
 bit-powers zero test p h = absurd (not-suc-le-zero h)
 bit-powers (suc n) test p h =
     ap (λ (x : ℕ). bit x p) (powers-suc n test)
@@ -94,7 +94,7 @@ bit-powers (suc n) test p h =
     p
     h
 
-pub bit-powers-past : (n : ℕ) (test : ℕ → Bool) (p : ℕ) → n ≤ p → bit (powers n test) p ≡ false
+bit-powers-past : (n : ℕ) (test : ℕ → Bool) (p : ℕ) → n ≤ p → bit (powers n test) p ≡ false
 bit-powers-past n test p h = bit-past (powers n test) p (lt-of-lt-of-le (powers-lt n test) (pow-mono h))
 
 pub bit-powers-iff : (n : ℕ) (test : ℕ → Bool) (p : ℕ) → T (bit (powers n test) p) ↔ (T (ltb p n) × T (test p))

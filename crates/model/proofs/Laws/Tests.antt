@@ -81,11 +81,6 @@ pub one-of-three-iff : (a b c : Bool) {A B C : Type 0}
     → T a ↔ A → T b ↔ B → T c ↔ C → T (a || b || c) ↔ (A ⊎ B ⊎ C)
 one-of-three-iff a b c f g h = rw or-assoc (either-iff a (b || c) f (either-iff b c g h))
 
--- what a test chooses: the one thing where it holds, and the other where it does not
-pub cond-iff : {A : Type 0} (b : Bool) (z x y : A) → (z ≡ cond b x y) ↔ ((T b → z ≡ x) × ((T b → ⊥) → z ≡ y))
-cond-iff true z x y = (λ e. (λ t. e, λ f. absurd (f tt)), λ h. h .0 tt)
-cond-iff false z x y = (λ e. (λ t. absurd t, λ f. e), λ h. h .1 (λ t. t))
-
 -- ---- numbers
 
 pub leb-iff : (m n : ℕ) → T (leb m n) ↔ (m ≤ n)
@@ -177,6 +172,11 @@ check-map f true failure rest = refl
 check-map f false failure rest = refl
 
 -- ---- whichever way a test comes out
+
+-- what a test chooses: the one thing where it holds, and the other where it does not
+pub cond-iff : {A : Type 0} (b : Bool) (z x y : A) → (z ≡ cond b x y) ↔ ((T b → z ≡ x) × ((T b → ⊥) → z ≡ y))
+cond-iff true z x y = (λ e. (λ t. e, λ f. absurd (f tt)), λ h. h .0 tt)
+cond-iff false z x y = (λ e. (λ t. absurd t, λ f. e), λ h. h .1 (λ t. t))
 
 -- what holds of the one where the test holds, and of the other where it does not, holds of the one that is chosen
 pub cond-by : {A : Type 0} (P : A → Type 0) (b : Bool) (x y : A) → (b ≡ true → P x) → (b ≡ false → P y)

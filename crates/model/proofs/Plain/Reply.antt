@@ -1,5 +1,5 @@
 -- What 06h lists, in plain logic: "Every non-zero count of that type that the source may see is listed: FFh first, then phys
--- rising, then reason rising. A source sees FFh and the phys it reaches." Assumes nothing.
+-- rising, then reason rising. A source sees FFh and the phys it reaches." And how long the descriptors of 06h and 14h are. Assumes nothing.
 use Prim.Native.Nat.{ℕ, suc, _+_, _*_, _≤_, _<_}
 use native.Mathlib.Omega.{arith}
 use mathlib.Core.Path.{_≡_, refl, ap, subst⁻¹}

@@ -1,5 +1,5 @@
--- When a frame is bad, of a known function and of a right length, and which descriptor is the first unsupported one,
--- in plain logic. Assumes nothing.
+-- When a frame is bad, of a known function and of a right length, what is asked, by the function, and which descriptor is the first
+-- unsupported one, in plain logic. Assumes nothing.
 use Prim.Native.Nat.{ℕ, zero, suc, _+_, _*_, _≤_, _<_, zero-le}
 use native.Mathlib.Nat.{eq-or-lt-of-le, not-le-of-lt}
 use native.Mathlib.Omega.{arith}
