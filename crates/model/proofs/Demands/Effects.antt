@@ -24,6 +24,7 @@ use Rattle.model.specs.Sources.{peak}
 use Rattle.model.specs.Writes.{controlled, controlChanges, setMonitor, setMonitors, withMonitors, setOn, clearMonitor}
 use Rattle.model.specs.Writes.{anyPeak, clearOn, configured, effect}
 use Rattle.model.proofs.Laws.Tests.{and-iff, not-both-iff, both-iff, cond-iff, eqb-iff, by-each}
+use Rattle.model.proofs.Plain.Results.{knownOperations}
 use Rattle.model.proofs.Plain.Shelf.{OnlyPhy, put-only}
 use Rattle.model.proofs.Plain.Writes.{set-length, set-at, HasPeak, anyPeak-iff}
 
@@ -84,10 +85,10 @@ controlled-effect s frame expected p operation h =
     }
 
 -- no two shelves are left by one of the four operations
-pub controlled-settled : {s t u : Shelf} {p operation : ℕ} → List·Memᴰ operation (0x00 ∷ 0x01 ∷ 0x03 ∷ 0x05 ∷ [])
+pub controlled-settled : {s t u : Shelf} {p operation : ℕ} → List·Memᴰ operation knownOperations
     → Controlled s p operation t → Controlled s p operation u → t ≡ u
 controlled-settled {s} {t} {u} {p} {operation} known a b =
-    by-each (t ≡ u) operation (0x00 ∷ 0x01 ∷ 0x03 ∷ 0x05 ∷ []) known
+    by-each (t ≡ u) operation knownOperations known
     (λ e. a .none e ∙ sym (b .none e))
     (λ e. alike (a .link-reset e) (b .link-reset e))
     (λ e. disabled e (phyAt s p .enabled) refl)

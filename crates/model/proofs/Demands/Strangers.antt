@@ -29,13 +29,14 @@ use Rattle.model.proofs.Demands.Results.{Of, NotRefused, verdict-checks
 use Rattle.model.proofs.Laws.Checks.{every-outcome, write-passed}
 use Rattle.model.proofs.Laws.Handled.{verdict, handled-all, accepted-decided}
 use Rattle.model.proofs.Laws.Tests.{is-false, by-each, check-both, cond-both}
+use Rattle.model.proofs.Plain.Request.{phyFunctions}
 use Rattle.model.proofs.Plain.Shelf.{OnlyPhy, same-only, put-only, put-other}
 
 -- ---- A stranger's request
 
 -- A request of one of the four functions with a phy, which its source does not reach.
 pub record Strange (s : Shelf) (g : ℕ) (frame : List ℕ) : Type 0 where
-  pub function : Of (0x11 ∷ 0x14 ∷ 0x91 ∷ 0x93 ∷ []) frame
+  pub function : Of phyFunctions frame
   pub unreached : T (reaches s g (byte frame 9)) → ⊥
 
 -- All that its answer depends on: the function, and whether the length, the count (of a write) and the phy's existence pass.
@@ -57,7 +58,7 @@ stranger-verdict : (s : Shelf) (g : ℕ) (frame : List ℕ) → Strange s g fram
 unfolding known
 stranger-verdict s g frame strange =
     let out : reaches s g (byte frame 9) ≡ false = is-false (reaches s g (byte frame 9)) (strange .unreached) in
-    by-each (resultCode (verdict s g frame) ≡ codeFor s frame) (functionOf frame) (0x11 ∷ 0x14 ∷ 0x91 ∷ 0x93 ∷ []) (strange .function)
+    by-each (resultCode (verdict s g frame) ≡ codeFor s frame) (functionOf frame) phyFunctions (strange .function)
     (λ e. rw (verdict-checks s g frame, e, out))
     (λ e. rw (verdict-checks s g frame, e, out))
     (λ e. rw (verdict-checks s g frame, e, out))
@@ -96,7 +97,7 @@ strangers-learn-nothing s t g h frame frame′ out answered answered′ strange 
     let one : Failed s g frame out (codeFor s frame) = stranger-answered s g frame out answered strange in
     let other : Failed t h frame′ out (codeFor t frame′) = stranger-answered t h frame′ out answered′ strange′ in
     let code : codeFor s frame ≡ codeFor t frame′ =
-    by-each (codeFor s frame ≡ codeFor t frame′) (functionOf frame) (0x11 ∷ 0x14 ∷ 0x91 ∷ 0x93 ∷ []) (strange .function)
+    by-each (codeFor s frame ≡ codeFor t frame′) (functionOf frame) phyFunctions (strange .function)
     (λ e. rw (← function, e, lengths, there))
     (λ e. rw (← function, e, lengths, there))
     (λ e. rw (← function, counts (List·Memᴰ·head e), lengths, there))

@@ -3,7 +3,7 @@
 use Prim.Native.Nat.{ℕ}
 use mathlib.Core.Path.{_≡_, refl}
 use mathlib.Core.Bool.{false}
-use mathlib.Core.List.{List, [], _∷_, List·Memᴰ·head, List·Memᴰ·tail}
+use mathlib.Core.List.{List, [], List·Memᴰ·head, List·Memᴰ·tail}
 use borrow.Author.Tests.{ne-eqb}
 use lib.Dec.{T, eqb}
 use lib.ListN.{length}
@@ -25,7 +25,7 @@ use Rattle.model.proofs.Laws.PhyChanges.{Inner, event-inner, configured
 use Rattle.model.proofs.Laws.Steps.{SameZones}
 use Rattle.model.proofs.Laws.Tests.{is-false, by-each}
 use Rattle.model.proofs.Plain.CrossedOut.{CrossedRequest, crossed-request-iff, crossed-event-iff}
-use Rattle.model.proofs.Plain.Request.{asked-91, asked-93}
+use Rattle.model.proofs.Plain.Request.{phyFunctions, asked-91, asked-93}
 
 -- ---- a request
 
@@ -48,7 +48,7 @@ module _ (g : ℕ) (s : Shelf) where
       → looks g (effect s frame (asked frame)) ≡ looks g s
   unfolding effect asked
   unseen-effect h frame crossed =
-      by-each (looks g (effect s frame (asked frame)) ≡ looks g s) (functionOf frame) (0x11 ∷ 0x14 ∷ 0x91 ∷ 0x93 ∷ []) (crossed .about .0)
+      by-each (looks g (effect s frame (asked frame)) ≡ looks g s) (functionOf frame) phyFunctions (crossed .about .0)
       (λ e. rw e)
       (λ e. rw e)
       control

@@ -24,7 +24,7 @@ use Rattle.model.proofs.Laws.Handled.{handled-all, accepted-decided}
 use Rattle.model.proofs.Laws.Tests.{leb-iff}
 use Rattle.model.proofs.Plain.Reach.{exists-iff}
 use Rattle.model.proofs.Plain.Request.{asked-91, asked-93, by-function, right-length-91, right-length-93}
-use Rattle.model.proofs.Plain.Results.{count-right, known-operation}
+use Rattle.model.proofs.Plain.Results.{count-right, knownOperations, known-operation}
 
 -- length, count, phy, zone and contents all pass
 pub record Passes (s : Shelf) (g : ℕ) (frame : List ℕ) (size : ℕ) (lengths : List ℕ) (Contents : Type 0) : Type 0 where
@@ -41,7 +41,7 @@ pub record Passes (s : Shelf) (g : ℕ) (frame : List ℕ) (size : ℕ) (lengths
 -- 91h: the operation in byte 10 is one of the four
 abbrev pub ControlPasses : Shelf → ℕ → List ℕ → Type 0
 ControlPasses s g frame =
-    Passes s g frame 40 (0x09 ∷ 0x00 ∷ []) (List·Memᴰ (byte frame 10) (0x00 ∷ 0x01 ∷ 0x03 ∷ 0x05 ∷ []))
+    Passes s g frame 40 (0x09 ∷ 0x00 ∷ []) (List·Memᴰ (byte frame 10) knownOperations)
 
 -- 93h: there are at most four descriptors, and each has the source 00h or a supported one
 abbrev pub ConfigurePasses : Shelf → ℕ → List ℕ → Type 0

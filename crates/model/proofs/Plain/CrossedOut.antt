@@ -15,17 +15,18 @@ use Rattle.model.specs.Runs.{Ask, Event}
 use Rattle.model.specs.Shelf.{exists}
 use Rattle.model.specs.Tests.{oneOf}
 use Rattle.model.proofs.Laws.Tests.{denied-iff, both-iff, all-three-iff, leb-iff, eqb-iff, oneOf-iff}
+use Rattle.model.proofs.Plain.Request.{phyFunctions}
 
 -- "a request is about a phy when its function is 11h, 14h, 91h or 93h, it has at least 12 bytes and byte 9 names an existing phy"
 abbrev pub AboutPhy : Shelf → List ℕ → Type 0
 AboutPhy s frame =
-    List·Memᴰ (functionOf frame) (0x11 ∷ 0x14 ∷ 0x91 ∷ 0x93 ∷ []) × (12 ≤ length frame) × T (exists s (byte frame 9))
+    List·Memᴰ (functionOf frame) phyFunctions × (12 ≤ length frame) × T (exists s (byte frame 9))
 
 pub about-iff : (s : Shelf) (frame : List ℕ) → T (aboutPhy s frame) ↔ AboutPhy s frame
 unfolding aboutPhy
 about-iff s frame =
-    all-three-iff (oneOf (0x11 ∷ 0x14 ∷ 0x91 ∷ 0x93 ∷ []) (functionOf frame)) (leb 12 (length frame)) (exists s (byte frame 9))
-    (oneOf-iff (0x11 ∷ 0x14 ∷ 0x91 ∷ 0x93 ∷ []) (functionOf frame))
+    all-three-iff (oneOf phyFunctions (functionOf frame)) (leb 12 (length frame)) (exists s (byte frame 9))
+    (oneOf-iff phyFunctions (functionOf frame))
     (leb-iff 12 (length frame))
     Iff·rfl
 

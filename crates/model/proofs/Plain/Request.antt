@@ -27,12 +27,19 @@ bad-frame frame =
     either-iff (ltb (length frame) 4) (not (eqb (byte frame 0) 0x40)) (ltb-iff (length frame) 4)
     (denied-iff (eqb (byte frame 0) 0x40) (eqb-iff (byte frame 0) 0x40))
 
+-- the seven functions, and the four of them with a phy
+abbrev pub knownFunctions : List ℕ
+knownFunctions = 0x00 ∷ 0x01 ∷ 0x06 ∷ 0x11 ∷ 0x14 ∷ 0x91 ∷ 0x93 ∷ []
+
+abbrev pub phyFunctions : List ℕ
+phyFunctions = 0x11 ∷ 0x14 ∷ 0x91 ∷ 0x93 ∷ []
+
 -- not 01h: one of the seven functions
 pub known-iff : (function : ℕ)
     → T (known function)
-    ↔ List·Memᴰ function (0x00 ∷ 0x01 ∷ 0x06 ∷ 0x11 ∷ 0x14 ∷ 0x91 ∷ 0x93 ∷ [])
+    ↔ List·Memᴰ function knownFunctions
 unfolding known
-known-iff function = oneOf-iff (0x00 ∷ 0x01 ∷ 0x06 ∷ 0x11 ∷ 0x14 ∷ 0x91 ∷ 0x93 ∷ []) function
+known-iff function = oneOf-iff knownFunctions function
 
 -- ---- not 03h
 
@@ -131,7 +138,7 @@ pub by-function : (frame : List ℕ) (P : ℕ → Request → Type 0) → T (kno
     → P (functionOf frame) (asked frame)
 unfolding asked
 by-function frame P t p00 p01 p06 p11 p14 p91 p93 =
-    by-each (P (functionOf frame) (asked frame)) (functionOf frame) (0x00 ∷ 0x01 ∷ 0x06 ∷ 0x11 ∷ 0x14 ∷ 0x91 ∷ 0x93 ∷ []) (known-iff (functionOf frame) .0 t)
+    by-each (P (functionOf frame) (asked frame)) (functionOf frame) knownFunctions (known-iff (functionOf frame) .0 t)
     (λ e. rw e p00)
     (λ e. rw e p01)
     (λ e. rw e p06)
