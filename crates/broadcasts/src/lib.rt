@@ -17,7 +17,7 @@ ghost use Prim.Native.Nat.{_≤_};
 ghost use lib.ListN.{length};
 ghost use Rattle.model.specs.Reply.{listed, deviceListed, phyListed, broadcasts, broadcastHead, reportBroadcast};
 ghost use Rattle.broadcasts.specs.Listed.{seenListed, Lists};
-ghost use Rattle.replies.specs.Sent.{Sent, ifRoom};
+ghost use Rattle.replies.specs.Sent.{Sent};
 
 // One count of the list, as descriptor n, unless it is 0: "Every non-zero count". Gives how many
 // descriptors there are now.
@@ -102,7 +102,7 @@ fn broadcast_head(changes: u16, kind: u8, n: u8) -> [u8; 8]
 // The response to 06h, in the lent buffer. Gives its length. Into a buffer shorter than 1,028 bytes nothing
 // is sent.
 pub fn report_broadcast(shelf: Shelf, source: u32, kind: u8, out: &mut [u8]) -> usize
-    ensures { λ r. ⌜ Sent (now (out .entry)) (ifRoom (now (out .entry)) (reportBroadcast shelf source kind)) r (now (out .exit)) ⌝ }
+    ensures { λ r. ⌜ Sent (now (out .entry)) (reportBroadcast shelf source kind) r (now (out .exit)) ⌝ }
 {
     if out.len() < 1028 {
         return 0;
