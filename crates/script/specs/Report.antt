@@ -49,16 +49,17 @@ abbrev pub readReport : List ℕ → Reading → ReportLine
 readReport line from = reportAfter line (readTimes line from)
 
 -- makes a report; the notices have no refusal
-unfoldable pub make : Shelf → Report → Outcome
-make s (Event phy source amount) = event s phy source amount
-make s (LinkChange phy) = linkChange s phy
-make s ReducedFunctionality = record { taken = Done; shelf = reducedFunctionality s }
-make s SesNotice = record { taken = Done; shelf = sesNotice s }
+unfoldable pub makeReport : Shelf → Report → Outcome
+makeReport s (Event phy source amount) = event s phy source amount
+makeReport s (LinkChange phy) = linkChange s phy
+makeReport s ReducedFunctionality = record { taken = Done; shelf = reducedFunctionality s }
+makeReport s SesNotice = record { taken = Done; shelf = sesNotice s }
 
 -- makes it that many times more
 unfoldable pub makeMore : Outcome → Report → ℕ → Outcome
 makeMore before report zero = before
-makeMore before report (suc times) = makeMore (make (before .shelf) report) report times
+makeMore before report (suc times) = makeMore (makeReport (before .shelf) report) report times
 
+-- .. that many times in all; 0 times come to `Done`, with the shelf as it was
 abbrev pub makeTimes : Shelf → Report → ℕ → Outcome
 makeTimes s report times = makeMore (record { taken = Done; shelf = s }) report times

@@ -9,7 +9,7 @@ use reports::link_change;
 use reports::reduced_functionality;
 use reports::ses_notice;
 ghost use mathlib.Core.Path.{_≡_};
-ghost use Rattle.script.specs.Report.{readTimes, readReport, make, makeTimes};
+ghost use Rattle.script.specs.Report.{readTimes, readReport, makeReport, makeTimes};
 
 pub enum Report {
     Event { phy: u32, source: u32, amount: u32 },
@@ -80,8 +80,8 @@ pub fn read_report(line: &[u8], from: Reading) -> ReportLine
 }
 
 // Makes a report. The notices have no refusal.
-fn make(shelf: Shelf, report: Report) -> Outcome
-    ensures { λ r. ⌜ r ≡ make shelf report ⌝ }
+fn make_report(shelf: Shelf, report: Report) -> Outcome
+    ensures { λ r. ⌜ r ≡ makeReport shelf report ⌝ }
 {
     match report {
         Report::Event {
@@ -101,7 +101,8 @@ fn make(shelf: Shelf, report: Report) -> Outcome
     }
 }
 
-// Makes a report that many times, and tells what the last came to.
+// Makes a report that many times, and tells what the last came to. 0 times come to `Done`, with the shelf
+// as it was.
 pub fn make_times(shelf: Shelf, report: Report, times: u32) -> Outcome
     ensures { λ r. ⌜ r ≡ makeTimes shelf report times ⌝ }
 {
@@ -111,7 +112,7 @@ pub fn make_times(shelf: Shelf, report: Report, times: u32) -> Outcome
     };
     for _ in 0..times {
         let before = outcome.shelf;
-        outcome = make(before, report);
+        outcome = make_report(before, report);
     }
     outcome
 }

@@ -1,12 +1,12 @@
 -- `spelling::spell_bytes` meets its contract. The loop's invariant: the text begins with the bytes so far, and what stands
 -- behind them is as it was. The measure is how many bytes are left. Assumes nothing.
+use borrow.Author.Needs.{needs}
 use Prim.Native.Nat.{_*_, _-_, _≤_}
 use native.Mathlib.Omega.{arith}
 use mathlib.Core.Path.{_≡_, refl}
 use lib.ListN.{length, take, drop, length-set}
 use Rattle.spelling.specs.Spelling.{bytesText}
 use Rattle.spelling.proofs.Front.{counts, spell-turn, spell-end, turn-rest, end-rest}
-use borrow.Author.Needs.{needs}
 use Rattle.spelling.proofs.spell_bytes.Statement.{statement}
 use Rattle.spelling.proofs.spell_bytes.Tie as tie
 
