@@ -1,6 +1,6 @@
 // Running a line of the script.
 use crate::print::print_house;
-use crate::print::print_unread;
+use crate::print::print_unreadable;
 use crate::request::run_request;
 use libc::STDOUT_FILENO;
 use model::Reach;
@@ -33,7 +33,7 @@ fn run_report(shelf: Shelf, line: &[u8], from: Reading) -> Shelf {
             last.shelf
         }
         ReportLine::NoReport => {
-            print_unread();
+            print_unreadable();
             shelf
         }
     }
@@ -43,7 +43,7 @@ fn run_report(shelf: Shelf, line: &[u8], from: Reading) -> Shelf {
 fn run_reach(shelf: Shelf, line: &[u8], from: Reading) {
     let group = read(line, from, b"reach of #");
     if !group.whole {
-        print_unread();
+        print_unreadable();
         return;
     }
     match reach_query(shelf, group.third) {

@@ -6,13 +6,13 @@ pub mod part;
 
 use gate::numbers::house_number;
 use model::House;
-use part::within;
+use part::at_most;
 ghost use mathlib.Core.Path.{_≡_};
 ghost use lib.ListN.{length, take, drop};
 ghost use Rattle.spelling.specs.Part.{Counts};
 ghost use Rattle.spelling.specs.Spelling.{hexDigit, houseText, setText, responseText};
 
-// The digit of a value below 16, in uppercase.
+// The digit of a value below 16, in uppercase; `?` stands for any other.
 fn hex_digit(value: u8) -> u8
     ensures { λ r. ⌜ r ≡ hexDigit value ⌝ }
 {
@@ -56,7 +56,7 @@ fn spell_bytes(response: &[u8], text: &mut [u8]) -> usize
     ensures spelled { λ r. ⌜ take r (now (text .exit)) ≡ responseText (now (response .entry)) ⌝ }
     ensures rest { λ r. ⌜ drop r (now (text .exit)) ≡ drop r (now (text .entry)) ⌝ }
 {
-    let n = within(1364, response);
+    let n = at_most(1364, response);
     for i in 0..n {
         text[3 * i] = b' ';
         text[3 * i + 1] = hex_digit(response[i] / 16);

@@ -20,8 +20,8 @@ Inv-loop response text₀ n i₀ text i =
 abbrev μ-loop : tie.MeasureT-loop
 μ-loop response text₀ n i₀ text i = n - i
 
-within-requires : tie.Need-within-requires Inv-loop μ-loop
-within-requires c κs = search needs
+at-most-requires : tie.Need-at-most-requires Inv-loop μ-loop
+at-most-requires c κs = search needs
 
 loop-holds : tie.Need-loop-holds Inv-loop μ-loop
 unfolding bytesText
@@ -99,7 +99,7 @@ returns : tie.Need-returns Inv-loop μ-loop
 returns c =
     let a = c .before .before .before .before .before .args in
     let at = c .before .loop in
-    let n = c .before .before .within in (
+    let n = c .before .before .at-most in (
       counts _ _ (simp length-set (omega arith)),
       (
         spell-end (at .text) (a .response .now) (at .i) (n .result) (omega arith) (n .ensures .1) (omega arith) (at .inv .2),
@@ -113,7 +113,7 @@ spell-bytes-spec =
     (tie.spec
     Inv-loop
     μ-loop
-    within-requires
+    at-most-requires
     loop-holds
     mul-text
     slice-write-text
