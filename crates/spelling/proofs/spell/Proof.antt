@@ -1,4 +1,4 @@
--- `spelling::spell_bytes` meets its contract. The loop's invariant: the text begins with the bytes so far, and what stands
+-- `spelling::spell` meets its contract. The loop's invariant: the text begins with the bytes so far, and what stands
 -- behind them is as it was. The measure is how many bytes are left. Assumes nothing.
 use borrow.Author.Needs.{needs}
 use Prim.Native.Nat.{_*_, _-_, _≤_}
@@ -7,18 +7,18 @@ use mathlib.Core.Path.{_≡_, refl}
 use lib.ListN.{length, take, drop, length-set}
 use Rattle.spelling.specs.Spelling.{bytesText}
 use Rattle.spelling.proofs.Front.{counts, spell-turn, spell-end, turn-rest, end-rest}
-use Rattle.spelling.proofs.spell_bytes.Statement.{statement}
-use Rattle.spelling.proofs.spell_bytes.Tie as tie
+use Rattle.spelling.proofs.spell.Statement.{statement}
+use Rattle.spelling.proofs.spell.Tie as tie
 
 abbrev Inv-loop : tie.InvT-loop
-Inv-loop response text₀ n i₀ text i =
+Inv-loop response written₀ n i₀ written i =
     (i ≤ n)
-    × (length text ≡ 4096)
-    × (take (3 * i) text ≡ bytesText (take i response))
-    × (drop (3 * i) text ≡ drop (3 * i) text₀)
+    × (length written ≡ 4096)
+    × (take (3 * i) written ≡ bytesText (take i response))
+    × (drop (3 * i) written ≡ drop (3 * i) written₀)
 
 abbrev μ-loop : tie.MeasureT-loop
-μ-loop response text₀ n i₀ text i = n - i
+μ-loop response written₀ n i₀ written i = n - i
 
 at-most-requires : tie.Need-at-most-requires Inv-loop μ-loop
 at-most-requires c κs = search needs
@@ -27,11 +27,11 @@ loop-holds : tie.Need-loop-holds Inv-loop μ-loop
 unfolding bytesText
 loop-holds c = (omega arith, omega arith, refl, refl)
 
-mul-text : tie.Need-mul-text Inv-loop μ-loop
-mul-text c = search needs
+mul-written : tie.Need-mul-written Inv-loop μ-loop
+mul-written c = search needs
 
-slice-write-text : tie.Need-slice-write-text Inv-loop μ-loop
-slice-write-text c = search needs
+slice-write-written : tie.Need-slice-write-written Inv-loop μ-loop
+slice-write-written c = search needs
 
 shared-slice-read-hex-digit : tie.Need-shared-slice-read-hex-digit Inv-loop μ-loop
 shared-slice-read-hex-digit c = search needs
@@ -39,14 +39,14 @@ shared-slice-read-hex-digit c = search needs
 hex-digit-requires : tie.Need-hex-digit-requires Inv-loop μ-loop
 hex-digit-requires c κs = search needs
 
-mul-text-2 : tie.Need-mul-text-2 Inv-loop μ-loop
-mul-text-2 c = search needs
+mul-written-2 : tie.Need-mul-written-2 Inv-loop μ-loop
+mul-written-2 c = search needs
 
-add-text : tie.Need-add-text Inv-loop μ-loop
-add-text c = search needs
+add-written : tie.Need-add-written Inv-loop μ-loop
+add-written c = search needs
 
-slice-write-text-2 : tie.Need-slice-write-text-2 Inv-loop μ-loop
-slice-write-text-2 c = simp length-set (omega arith)
+slice-write-written-2 : tie.Need-slice-write-written-2 Inv-loop μ-loop
+slice-write-written-2 c = simp length-set (omega arith)
 
 shared-slice-read-hex-digit-2 : tie.Need-shared-slice-read-hex-digit-2 Inv-loop μ-loop
 shared-slice-read-hex-digit-2 c = search needs
@@ -54,14 +54,14 @@ shared-slice-read-hex-digit-2 c = search needs
 hex-digit-requires-2 : tie.Need-hex-digit-requires-2 Inv-loop μ-loop
 hex-digit-requires-2 c κs = search needs
 
-mul-text-3 : tie.Need-mul-text-3 Inv-loop μ-loop
-mul-text-3 c = search needs
+mul-written-3 : tie.Need-mul-written-3 Inv-loop μ-loop
+mul-written-3 c = search needs
 
-add-text-2 : tie.Need-add-text-2 Inv-loop μ-loop
-add-text-2 c = search needs
+add-written-2 : tie.Need-add-written-2 Inv-loop μ-loop
+add-written-2 c = search needs
 
-slice-write-text-3 : tie.Need-slice-write-text-3 Inv-loop μ-loop
-slice-write-text-3 c = simp length-set (omega arith)
+slice-write-written-3 : tie.Need-slice-write-written-3 Inv-loop μ-loop
+slice-write-written-3 c = simp length-set (omega arith)
 
 add-i : tie.Need-add-i Inv-loop μ-loop
 add-i c = search needs
@@ -73,27 +73,24 @@ loop-again : tie.Need-loop-again Inv-loop μ-loop
 loop-again c =
     let a = c .before .before .before .before .before .before .before .before .before .args in
     let at = c .before .before .before .before .before .loop in
-    let turn = spell-turn (at .text) (a .response .now) (at .i) (omega arith) (omega arith) (at .inv .2) in (
+    let turn = spell-turn (at .written) (a .response .now) (at .i) (omega arith) (omega arith) (at .inv .2) in (
       omega arith,
       simp length-set (omega arith),
       rw (c .before .before .hex-digit .ensures, c .hex-digit2 .ensures) turn,
-      turn-rest (at .text) (a .text .now) (at .i) _ _ _ (at .inv .3),
+      turn-rest (at .written) (a .text .now) (at .i) _ _ _ (at .inv .3),
     )
 
-mul-text-4 : tie.Need-mul-text-4 Inv-loop μ-loop
-mul-text-4 c = search needs
+mul-written-4 : tie.Need-mul-written-4 Inv-loop μ-loop
+mul-written-4 c = search needs
 
-slice-write-text-4 : tie.Need-slice-write-text-4 Inv-loop μ-loop
-slice-write-text-4 c = search needs
+slice-write-written-4 : tie.Need-slice-write-written-4 Inv-loop μ-loop
+slice-write-written-4 c = search needs
 
 mul-result : tie.Need-mul-result Inv-loop μ-loop
 mul-result c = search needs
 
 add-result : tie.Need-add-result Inv-loop μ-loop
 add-result c = search needs
-
-same-length : tie.Need-same-length Inv-loop μ-loop
-same-length c = simp length-set (omega arith)
 
 returns : tie.Need-returns Inv-loop μ-loop
 returns c =
@@ -102,37 +99,36 @@ returns c =
     let n = c .before .before .at-most in (
       counts _ _ (simp length-set (omega arith)),
       (
-        spell-end (at .text) (a .response .now) (at .i) (n .result) (omega arith) (n .ensures .1) (omega arith) (at .inv .2),
-        end-rest (at .text) (a .text .now) (at .i) (n .result) (omega arith) (at .inv .3),
+        spell-end (at .written) (a .response .now) (at .i) (n .result) (omega arith) (n .ensures .1) (omega arith) (at .inv .2),
+        end-rest (at .written) (a .text .now) (at .i) (n .result) (omega arith) (at .inv .3),
       ),
     )
 
-pub spell-bytes-spec : {M : Type 1} → statement M
-spell-bytes-spec =
+pub spell-spec : {M : Type 1} → statement M
+spell-spec =
     tie.close
     (tie.spec
     Inv-loop
     μ-loop
     at-most-requires
     loop-holds
-    mul-text
-    slice-write-text
+    mul-written
+    slice-write-written
     shared-slice-read-hex-digit
     hex-digit-requires
-    mul-text-2
-    add-text
-    slice-write-text-2
+    mul-written-2
+    add-written
+    slice-write-written-2
     shared-slice-read-hex-digit-2
     hex-digit-requires-2
-    mul-text-3
-    add-text-2
-    slice-write-text-3
+    mul-written-3
+    add-written-2
+    slice-write-written-3
     add-i
     loop-less
     loop-again
-    mul-text-4
-    slice-write-text-4
+    mul-written-4
+    slice-write-written-4
     mul-result
     add-result
-    same-length
     returns)
