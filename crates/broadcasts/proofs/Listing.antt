@@ -18,11 +18,11 @@ sets-append out (x ∷ xs) ys at =
     ap (λ k. sets (sets out at (x ∷ xs)) k ys) (add-suc at (length xs) ∙ sym (suc-add at (length xs)))
     ∙ sets-append _ xs ys (suc at)
 
-bytes-append : (xs ys : List Broadcast) → broadcastBytes (xs ++ ys) ≡ broadcastBytes xs ++ broadcastBytes ys
+descriptors-append : (xs ys : List Broadcast) → broadcastBytes (xs ++ ys) ≡ broadcastBytes xs ++ broadcastBytes ys
 unfolding broadcastBytes
-bytes-append [] ys = refl
-bytes-append (x ∷ xs) ys =
-    ap (λ zs. broadcastDescriptor x ++ zs) (bytes-append xs ys)
+descriptors-append [] ys = refl
+descriptors-append (x ∷ xs) ys =
+    ap (λ zs. broadcastDescriptor x ++ zs) (descriptors-append xs ys)
     ∙ sym (append-assoc (broadcastDescriptor x) (broadcastBytes xs) (broadcastBytes ys))
 
 -- the descriptors of xs from n on, and then those of ys from there on
@@ -31,7 +31,7 @@ listed-append : (out : List ℕ) (n : ℕ) (xs ys : List Broadcast)
 listed-append out n xs ys =
     ap (λ k. sets (listedFrom out n xs) k (broadcastBytes ys)) (omega (arith, broadcast-bytes-length xs))
     ∙ sets-append out (broadcastBytes xs) (broadcastBytes ys) (8 + 8 * n)
-    ∙ ap (sets out (8 + 8 * n)) (sym (bytes-append xs ys))
+    ∙ ap (sets out (8 + 8 * n)) (sym (descriptors-append xs ys))
 
 pub lists-append : (out : List ℕ) (n : ℕ) {out′ out″ : List ℕ} {n′ n″ : ℕ} (xs ys : List Broadcast)
     → Lists out n xs n′ out′ → Lists out′ n′ ys n″ out″ → Lists out n (xs ++ ys) n″ out″

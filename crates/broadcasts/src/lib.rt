@@ -1,7 +1,9 @@
 // 06h: "Every non-zero count of that type that the source may see is listed: FFh first, then phys
 // rising, then reason rising." The list is written into the lent buffer as it is walked.
 //
-// `report_broadcast` asks nothing of its caller. The functions below it, which ask for room, are private.
+// `report_broadcast` asks nothing of its caller. The functions that it rests on are private: they ask for room,
+// and for no more descriptors than there can be, which are 49: one under FFh and two for each of 24 phys.
+// (`kind` is the broadcast type; `type` is a word of the language.)
 use gate::zone::smp_row_reaches;
 use model::Phy;
 use model::Shelf;
@@ -11,17 +13,17 @@ use shelf::phys::phy_at;
 use shelf::phys::phy_number;
 use shelf::table::row;
 ghost use mathlib.Core.Path.{_≡_};
-ghost use Prim.Native.Nat.{_+_, _*_, _≤_};
+ghost use Prim.Native.Nat.{_≤_};
 ghost use lib.ListN.{length};
 ghost use Rattle.model.specs.Reply.{listed, deviceListed, phyListed, seenListed, broadcasts, broadcastHead, reportBroadcast};
 ghost use Rattle.broadcasts.specs.Listed.{Lists};
-ghost use Rattle.replies.specs.Sent.{Sent, ifRoom};
+ghost use Rattle.replies.specs.Sent.{Sent};
 
 // One count of the list, as descriptor n, unless it is 0: "Every non-zero count". Gives how many
 // descriptors there are now.
 fn list(out: &mut [u8], n: u8, phy: u8, reason: u8, count: u16) -> u8
     requires { ⌜ 1028 ≤ length (now out) ⌝ }
-    requires { ⌜ n ≤ 60 ⌝ }
+    requires { ⌜ n ≤ 48 ⌝ }
     ensures { λ r. ⌜ Lists (now (out .entry)) n (listed phy reason count) r (now (out .exit)) ⌝ }
 {
     if count == 0 {
@@ -47,7 +49,7 @@ fn list_device(out: &mut [u8], kind: u8, expander3: u16, ses0: u16) -> u8
 // The counts of one phy: "Change reason 0h, Expander 1h and 2h", from descriptor n on.
 fn list_phy(out: &mut [u8], n: u8, kind: u8, phy: u8, numbers: Phy) -> u8
     requires { ⌜ 1028 ≤ length (now out) ⌝ }
-    requires { ⌜ n ≤ 58 ⌝ }
+    requires { ⌜ n ≤ 47 ⌝ }
     ensures { λ r. ⌜ Lists (now (out .entry)) n (phyListed kind phy numbers) r (now (out .exit)) ⌝ }
 {
     match kind {
@@ -63,7 +65,7 @@ fn list_phy(out: &mut [u8], n: u8, kind: u8, phy: u8, numbers: Phy) -> u8
 // .. if the source sees the phy: "A source sees FFh and the phys it reaches."
 fn list_seen(out: &mut [u8], n: u8, row: u32, kind: u8, phy: u8, numbers: Phy) -> u8
     requires { ⌜ 1028 ≤ length (now out) ⌝ }
-    requires { ⌜ n ≤ 58 ⌝ }
+    requires { ⌜ n ≤ 47 ⌝ }
     ensures { λ r. ⌜ Lists (now (out .entry)) n (seenListed row kind phy numbers) r (now (out .exit)) ⌝ }
 {
     if !smp_row_reaches(row, numbers.group) {
@@ -90,7 +92,7 @@ fn list_all(shelf: Shelf, source: u32, kind: u8, out: &mut [u8]) -> u8
 
 // "Response: 6 type, 7 number n, .. length 1 + 2n": the 8 bytes before the list.
 fn broadcast_head(changes: u16, kind: u8, n: u8) -> [u8; 8]
-    requires { ⌜ n ≤ 60 ⌝ }
+    requires { ⌜ n ≤ 49 ⌝ }
     ensures { λ r. ⌜ r ≡ broadcastHead changes kind n ⌝ }
 {
     let count = two(changes);
@@ -100,7 +102,7 @@ fn broadcast_head(changes: u16, kind: u8, n: u8) -> [u8; 8]
 // The response to 06h, in the lent buffer. Gives its length. Into a buffer shorter than 1,028 bytes nothing
 // is sent.
 pub fn report_broadcast(shelf: Shelf, source: u32, kind: u8, out: &mut [u8]) -> usize
-    ensures { λ r. ⌜ Sent (now (out .entry)) (ifRoom (now (out .entry)) (reportBroadcast shelf source kind)) r (now (out .exit)) ⌝ }
+    ensures { λ r. ⌜ Sent (now (out .entry)) (reportBroadcast shelf source kind) r (now (out .exit)) ⌝ }
 {
     if out.len() < 1028 {
         return 0;

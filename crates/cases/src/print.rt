@@ -5,7 +5,7 @@ use spelling::house_text;
 use spelling::spell;
 
 // Writes that a line can't be read.
-pub(crate) fn print_unread() {
+pub(crate) fn print_unreadable() {
     io::write_all(STDOUT_FILENO, b" ?\n");
 }
 

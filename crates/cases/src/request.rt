@@ -1,14 +1,14 @@
 // The requests of the script.
 use crate::print::print_house;
 use crate::print::print_response;
-use crate::print::print_unread;
+use crate::print::print_unreadable;
 use model::Answer;
 use model::Shelf;
 use script::line::read_asked;
 use script::line::read_hex;
 use script::text::Reading;
 use server::serve;
-use spelling::part::within;
+use spelling::part::at_most;
 ghost use mathlib.Core.Path.{_≡_};
 ghost use lib.ListN.{length};
 
@@ -45,13 +45,13 @@ fn ask(
     buffer: &mut [u8],
     room: u32,
 ) -> Shelf {
-    let n = within(length, frame);
-    let k = within(room as usize, buffer);
+    let n = at_most(length, frame);
+    let k = at_most(room as usize, buffer);
     let served = serve(shelf, source, &frame[..n], &mut buffer[..k]);
     let answer = served.answer;
     match answer {
         Answer::Response(size) => {
-            let sent = within(size, buffer);
+            let sent = at_most(size, buffer);
             print_response(&buffer[..sent])
         }
         Answer::NoResponse(house) => print_house(house),
@@ -76,6 +76,6 @@ pub(crate) fn run_request(shelf: Shelf, line: &[u8], from: Reading) -> Shelf {
             asked.third,
         );
     }
-    print_unread();
+    print_unreadable();
     shelf
 }

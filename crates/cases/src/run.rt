@@ -1,6 +1,6 @@
 // Running a line of the script.
 use crate::print::print_house;
-use crate::print::print_unread;
+use crate::print::print_unreadable;
 use crate::request::run_request;
 use libc::STDOUT_FILENO;
 use model::Reach;
@@ -8,7 +8,7 @@ use model::Shelf;
 use model::Taken;
 use script::line::Line;
 use script::line::line_kind;
-use script::report::Told;
+use script::report::ReportLine;
 use script::report::make_times;
 use script::report::read_report;
 use script::shelf_w::shelf_w;
@@ -21,7 +21,7 @@ use spelling::set_text;
 // `event on phy 2, source 2Dh, amount 12`, `65534 times: link change on phy 0` and the like
 fn run_report(shelf: Shelf, line: &[u8], from: Reading) -> Shelf {
     match read_report(line, from) {
-        Told::Says { times, report } => {
+        ReportLine::Makes { times, report } => {
             let last = make_times(shelf, report, times);
             let taken = last.taken;
             match taken {
@@ -32,8 +32,8 @@ fn run_report(shelf: Shelf, line: &[u8], from: Reading) -> Shelf {
             }
             last.shelf
         }
-        Told::Nothing => {
-            print_unread();
+        ReportLine::NoReport => {
+            print_unreadable();
             shelf
         }
     }
@@ -43,7 +43,7 @@ fn run_report(shelf: Shelf, line: &[u8], from: Reading) -> Shelf {
 fn run_reach(shelf: Shelf, line: &[u8], from: Reading) {
     let group = read(line, from, b"reach of #");
     if !group.whole {
-        print_unread();
+        print_unreadable();
         return;
     }
     match reach_query(shelf, group.third) {

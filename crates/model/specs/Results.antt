@@ -45,9 +45,9 @@ knownOperation operation = oneOf (0x00 ∷ 0x01 ∷ 0x03 ∷ 0x05 ∷ []) operat
 -- From whether the phy exists, and whether the source reaches it: "10h PHY DOES NOT EXIST (functions with a phy, byte 9)", then
 -- "Not reached", with its result, then the rest.
 abbrev pub checkPhy : Bool → Bool → FunctionResult → FunctionResult → FunctionResult
-checkPhy there reached notReached rest =
+checkPhy there reached unreached rest =
     check there PhyDoesNotExist
-    (check reached notReached
+    (check reached unreached
     rest)
 
 -- "16h PHY VACANT for 11h and 14h"

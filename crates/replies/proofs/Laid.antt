@@ -1,11 +1,11 @@
 -- Bytes that are copied over a frame, from a place on to its end, are what `sets` says. Assumes nothing.
 use Prim.Native.Nat.{ℕ, _+_, _-_, _≤_}
 use native.Mathlib.Omega.{arith}
-use mathlib.Core.Path.{_≡_}
+use mathlib.Core.Path.{_≡_, _∙_}
 use mathlib.Core.List.{List, [], _++_, append-assoc, append-nil}
-use lib.ListN.{length, take, drop, length-drop, drop-of-length-le}
-use lib.Seq.{sets, sets-eq, take-all, take-length, drop-drop}
-use borrow.Rule.Slice.PartMut.{midOf, postOf, putMid}
+use lib.ListN.{length, take, drop, length-drop}
+use lib.Seq.{sets, sets-eq, take-all, take-length, drop-length, drop-drop}
+use borrow.Rule.Slice.PartMut.{midOf, postOf, putMid, post-is}
 
 module _ (frame bytes : List ℕ) (at : ℕ) (fits : at + length bytes ≤ length frame) where
   -- what the part from the place on holds after the copy
@@ -17,7 +17,7 @@ module _ (frame bytes : List ℕ) (at : ℕ) (fits : at + length bytes ≤ lengt
   part-all = take-all (length frame - at) (drop at frame) (omega (arith, length-drop at frame))
 
   rest-none : postOf at (length frame - at) frame ≡ []
-  rest-none = drop-of-length-le (drop at frame) {i = length frame - at} (omega (arith, length-drop at frame))
+  rest-none = post-is at (length frame) frame (omega arith) ∙ drop-length frame
 
   pub laid-over : putMid at (length frame - at) frame copied ≡ sets frame at bytes
   laid-over =

@@ -11,11 +11,11 @@ module _ (out : List ℕ) where
   pub has-room : (bytes : List ℕ) → 1028 ≤ length out → ifRoom out bytes ≡ bytes
   has-room bytes room = rw (le-ltb (length out) 1028 room)
 
-  pub none-sent : (bytes : List ℕ) → length out < 1028 → Sent out (ifRoom out bytes) 0 out
+  pub none-sent : (bytes : List ℕ) → length out < 1028 → Sent out bytes 0 out
   none-sent bytes short = rw (lt-ltb (length out) 1028 short) (refl, refl)
 
   -- what `copy` tells of the bytes, which are known as a definition's
   pub sent : {bytes known after : List ℕ} {size : ℕ} → 1028 ≤ length out
       → size ≡ length bytes → after ≡ take (length bytes) bytes ++ drop (length bytes) out → bytes ≡ known
-      → Sent out (ifRoom out known) size after
+      → Sent out known size after
   sent {bytes} {known} room s a k = rw (has-room known room) (s ∙ ap length k, a ∙ rw (take-length bytes, k))

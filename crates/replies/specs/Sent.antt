@@ -7,10 +7,11 @@ use lib.Dec.{ltb}
 use lib.ListN.{length}
 use Rattle.model.specs.Server.{over}
 
--- These bytes have been sent: their number, and the buffer afterwards, which holds them and behind them its old rest.
-abbrev pub Sent : List ℕ → List ℕ → ℕ → List ℕ → Type 0
-Sent out bytes size after = (size ≡ length bytes) × (after ≡ over out bytes)
-
 -- What is sent of these bytes: all, or, into a buffer shorter than 1,028 bytes, nothing.
 abbrev pub ifRoom : List ℕ → List ℕ → List ℕ
 ifRoom out bytes = cond (ltb (length out) 1028) [] bytes
+
+-- These bytes have been sent, if there was room: how many were, and the buffer afterwards, which holds what was sent and behind it its
+-- old rest.
+abbrev pub Sent : List ℕ → List ℕ → ℕ → List ℕ → Type 0
+Sent out bytes size after = (size ≡ length (ifRoom out bytes)) × (after ≡ over out (ifRoom out bytes))

@@ -7,7 +7,7 @@ ghost use lib.ListN.{length};
 ghost use lib.Seq.{sets};
 ghost use Rattle.model.specs.Bytes.{two};
 
-// A frame with bytes written over it, from a place on.
+// Writes bytes over a frame, from a place on.
 pub(crate) fn lay(frame: &mut [u8], at: usize, bytes: &[u8])
     requires { ⌜ at + length (now bytes) ≤ length (now frame) ⌝ }
     ensures { λ _. ⌜ now (frame .exit) ≡ sets (now (frame .entry)) at (now (bytes .entry)) ⌝ }

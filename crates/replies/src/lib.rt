@@ -1,4 +1,5 @@
-// The responses to requests, byte by byte, each made and handed back by value.
+// The responses of a fixed size, byte by byte, and the descriptor of 06h's list, each made and handed back
+// by value.
 //
 // Each public function is proved equal to a definition of the model (crates/model/specs/Reply and
 // Bytes), and bears its name. None asks anything of its caller.

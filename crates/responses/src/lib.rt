@@ -16,11 +16,11 @@ use shelf::phys::phy_at;
 use shelf::phys::phy_number;
 ghost use Rattle.model.specs.Reply.{failed, respond};
 ghost use Rattle.model.specs.Results.{resultCode};
-ghost use Rattle.replies.specs.Sent.{Sent, ifRoom};
+ghost use Rattle.replies.specs.Sent.{Sent};
 
 // The four bytes of a result: "A failed response is 41h, the function, the result, 00h."
 pub fn send_result(function: u8, result: FunctionResult, out: &mut [u8]) -> usize
-    ensures { λ r. ⌜ Sent (now (out .entry)) (ifRoom (now (out .entry)) (failed function (resultCode result))) r (now (out .exit)) ⌝ }
+    ensures { λ r. ⌜ Sent (now (out .entry)) (failed function (resultCode result)) r (now (out .exit)) ⌝ }
 {
     if out.len() < 1028 {
         return 0;
@@ -30,7 +30,7 @@ pub fn send_result(function: u8, result: FunctionResult, out: &mut [u8]) -> usiz
 
 // The accepted response to a request. 91h and 93h: "Response 4 bytes."
 pub fn respond(shelf: Shelf, source: u32, request: Request, out: &mut [u8]) -> usize
-    ensures { λ r. ⌜ Sent (now (out .entry)) (ifRoom (now (out .entry)) (respond shelf source request)) r (now (out .exit)) ⌝ }
+    ensures { λ r. ⌜ Sent (now (out .entry)) (respond shelf source request) r (now (out .exit)) ⌝ }
 {
     if out.len() < 1028 {
         return 0;

@@ -1,11 +1,9 @@
 -- A result that is not accepted ends the judging, and one that is lets it go on. Assumes nothing.
-use Prim.Native.Nat.{ℕ, suc}
-use native.Mathlib.Omega.{arith}
+use Prim.Native.Nat.{ℕ}
 use mathlib.Core.Path.{_≡_, refl, sym, ap, _∙_}
 use mathlib.Core.Bool.{Bool, true, false, true≢false, false≢true}
-use mathlib.Core.Logic.{_⊎_, ⊎-elim}
-use mathlib.Core.List.{[], _∷_}
-use types.Run.{OneOf}
+use mathlib.Core.List.{List, [], _∷_}
+use types.Run.{OneOf, miss}
 use denote.Enum.Declared.{tagOf}
 use Rattle.model.specs.declared.FunctionResult.{FunctionResult}
 use Rattle.model.specs.declared.FunctionResult.the-variants.{Accepted, UnknownSmpFunction, SmpFunctionFailed}
@@ -16,19 +14,16 @@ use Rattle.model.specs.declared.FunctionResult.the-variants.{UnknownPhyEventSou
 use Rattle.model.specs.Results.{accepted, checkWrite}
 use Rattle.model.proofs.FunctionResult.{the-type}
 
--- none of these keys is 0
-no-zero : OneOf (1 ∷ 2 ∷ 3 ∷ 4 ∷ 5 ∷ 6 ∷ 7 ∷ 8 ∷ 9 ∷ []) 0 → ⊥
-no-zero = past (past (past (past (past (past (past (past (λ e. omega (arith, e)))))))))
-  where
-    past : {A : Type 0} {k : ℕ} → (A → ⊥) → (0 ≡ suc k) ⊎ A → ⊥
-    past rest = ⊎-elim (λ e. omega (arith, e)) rest
+-- the variants but `Accepted`, by their places in the enum
+abbrev others : List ℕ
+others = 1 ∷ 2 ∷ 3 ∷ 4 ∷ 5 ∷ 6 ∷ 7 ∷ 8 ∷ 9 ∷ []
 
 -- what the `else` of a `let FunctionResult::Accepted = ..` knows: one of the other variants stands there
 abbrev pub Other : FunctionResult → Type 0
-Other result = OneOf (1 ∷ 2 ∷ 3 ∷ 4 ∷ 5 ∷ 6 ∷ 7 ∷ 8 ∷ 9 ∷ []) (tagOf the-type result)
+Other result = OneOf others (tagOf the-type result)
 
 pub not-accepted : (result : FunctionResult) → Other result → accepted result ≡ false
-not-accepted Accepted e = absurd (no-zero e)
+not-accepted Accepted e = absurd (miss others 0 tt e)
 not-accepted UnknownSmpFunction e = refl
 not-accepted SmpFunctionFailed e = refl
 not-accepted InvalidRequestFrameLength e = refl

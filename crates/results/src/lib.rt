@@ -5,7 +5,7 @@ use model::FunctionResult;
 use model::Request;
 use writes::descriptors::first_unsupported;
 ghost use mathlib.Core.Path.{_≡_};
-ghost use Rattle.model.specs.Results.{countRight, knownOperation, checkPhy, checkWrite};
+ghost use Rattle.model.specs.Results.{countRight, knownOperation, checkPhy, checkRead, checkWrite};
 ghost use Rattle.model.specs.Results.{checkKind, checkOperation, checkDescriptors, resultOf};
 ghost use Rattle.model.specs.declared.FunctionResult.the-variants.{Accepted};
 
@@ -27,6 +27,13 @@ fn check_phy(there: bool, reached: bool, unreached: FunctionResult) -> FunctionR
         return unreached;
     }
     FunctionResult::Accepted
+}
+
+// "16h PHY VACANT for 11h and 14h"
+fn check_read(there: bool, reached: bool) -> FunctionResult
+    ensures { λ r. ⌜ r ≡ checkRead there reached ⌝ }
+{
+    check_phy(there, reached, FunctionResult::PhyVacant)
 }
 
 // A write up to its contents: 04h, 10h, and "20h SMP ZONE VIOLATION for 91h and 93h"
@@ -129,12 +136,8 @@ pub fn result_of(
         Request::ReportGeneral => FunctionResult::Accepted,
         Request::ReportManufacturer => FunctionResult::Accepted,
         Request::ReportBroadcast { kind } => check_kind(kind),
-        Request::ReportPhyErrorLog { phy: _ } => check_phy(
-            there,
-            reached,
-            FunctionResult::PhyVacant,
-        ),
-        Request::ReportPhyEvent { phy: _ } => check_phy(there, reached, FunctionResult::PhyVacant),
+        Request::ReportPhyErrorLog { phy: _ } => check_read(there, reached),
+        Request::ReportPhyEvent { phy: _ } => check_read(there, reached),
         Request::PhyControl {
             expected,
             phy: _,

@@ -1,4 +1,5 @@
--- One turn of reading: the bytes from a place on are the byte there and the bytes after it. Assumes nothing.
+-- One turn of each loop: of the bytes of a line or a form that are left, and of the times that a report is still to be made. Assumes
+-- nothing.
 use Prim.Native.Nat.{ℕ, suc, _+_, _-_, _<_, _≤_}
 use native.Mathlib.Numerals.{add-one}
 use native.Mathlib.Omega.{arith}
@@ -12,7 +13,7 @@ use Rattle.model.specs.declared.Outcome.{Outcome}
 use Rattle.script.specs.declared.report.Report.{Report}
 use Rattle.script.specs.declared.text.Number.{Number}
 use Rattle.script.specs.declared.text.Reading.{Reading}
-use Rattle.script.specs.Report.{make, makeMore}
+use Rattle.script.specs.Report.{makeReport, makeMore}
 use Rattle.script.specs.Text.{digit, longer, digits, readOne, readEach}
 
 module _ (line : List ℕ) (base value end : ℕ) where
@@ -50,7 +51,7 @@ read-end line next form i e = rw (drop-of-length-le form {i = i} (omega arith))
 
 -- a report is made once more
 pub make-turn : (before : Outcome) (report : Report) (times done : ℕ) → done < times
-    → makeMore (make (before .shelf) report) report (times - (done + 1)) ≡ makeMore before report (times - done)
+    → makeMore (makeReport (before .shelf) report) report (times - (done + 1)) ≡ makeMore before report (times - done)
 unfolding makeMore
 make-turn before report times done h =
     let e : times - done ≡ suc (times - (done + 1)) = omega arith in

@@ -1,4 +1,4 @@
 -- What the functions of this crate give.
+pub mod Text
 pub mod Line
 pub mod Report
-pub mod Text

@@ -10,8 +10,8 @@ use Rattle.model.specs.Reports.{event, linkChange, reducedFunctionality, sesNot
 use Rattle.model.specs.Tests.{given}
 use Rattle.script.specs.declared.report.Report.{Report}
 use Rattle.script.specs.declared.report.Report.the-variants.{Event, LinkChange, ReducedFunctionality, SesNotice}
-use Rattle.script.specs.declared.report.Told.{Told}
-use Rattle.script.specs.declared.report.Told.the-variants.{Says, Nothing}
+use Rattle.script.specs.declared.report.ReportLine.{ReportLine}
+use Rattle.script.specs.declared.report.ReportLine.the-variants.{Makes, NoReport}
 use Rattle.script.specs.declared.text.Reading.{Reading}
 use Rattle.script.specs.Text.{reading, read}
 
@@ -22,33 +22,44 @@ readTimes line from =
     cond (told .fits) told
     (reading (from .at) (from .fits) (from .whole) (from .first) (from .second) 1)
 
--- the report that stands after that, to the end of the line
-unfoldable pub reportAfter : List ℕ → Reading → Told
+-- The forms of a report, each to the end of the line. They are tried in the order event, link change, reduced functionality, SES; each
+-- definition is one form, and then what is left to try.
+unfoldable pub sesAfter : List ℕ → Reading → ReportLine
+sesAfter line start =
+    let ses = read line start (text "SES notice") in
+    given (ses .whole) (Makes (start .third) SesNotice) NoReport
+
+unfoldable pub reducedAfter : List ℕ → Reading → ReportLine
+reducedAfter line start =
+    let reduced = read line start (text "notice of reduced functionality") in
+    given (reduced .whole) (Makes (start .third) ReducedFunctionality) (sesAfter line start)
+
+unfoldable pub linkAfter : List ℕ → Reading → ReportLine
+linkAfter line start =
+    let link = read line start (text "link change on phy #") in
+    given (link .whole) (Makes (start .third) (LinkChange (link .third))) (reducedAfter line start)
+
+-- the report that stands after how many times
+unfoldable pub reportAfter : List ℕ → Reading → ReportLine
 reportAfter line start =
     let event = read line start (text "event on phy #, source $h, amount #") in
-    let link = read line start (text "link change on phy #") in
-    let reduced = read line start (text "notice of reduced functionality") in
-    let ses = read line start (text "SES notice") in
-    given (event .whole) (Says (start .third) (Event (event .first) (event .second) (event .third)))
-    (given (link .whole) (Says (start .third) (LinkChange (link .third)))
-    (given (reduced .whole) (Says (start .third) ReducedFunctionality)
-    (given (ses .whole) (Says (start .third) SesNotice)
-    Nothing)))
+    given (event .whole) (Makes (start .third) (Event (event .first) (event .second) (event .third))) (linkAfter line start)
 
-abbrev pub readReport : List ℕ → Reading → Told
+abbrev pub readReport : List ℕ → Reading → ReportLine
 readReport line from = reportAfter line (readTimes line from)
 
 -- makes a report; the notices have no refusal
-unfoldable pub make : Shelf → Report → Outcome
-make s (Event phy source amount) = event s phy source amount
-make s (LinkChange phy) = linkChange s phy
-make s ReducedFunctionality = record { taken = Done; shelf = reducedFunctionality s }
-make s SesNotice = record { taken = Done; shelf = sesNotice s }
+unfoldable pub makeReport : Shelf → Report → Outcome
+makeReport s (Event phy source amount) = event s phy source amount
+makeReport s (LinkChange phy) = linkChange s phy
+makeReport s ReducedFunctionality = record { taken = Done; shelf = reducedFunctionality s }
+makeReport s SesNotice = record { taken = Done; shelf = sesNotice s }
 
 -- makes it that many times more
 unfoldable pub makeMore : Outcome → Report → ℕ → Outcome
 makeMore before report zero = before
-makeMore before report (suc times) = makeMore (make (before .shelf) report) report times
+makeMore before report (suc times) = makeMore (makeReport (before .shelf) report) report times
 
+-- .. that many times in all; 0 times come to `Done`, with the shelf as it was
 abbrev pub makeTimes : Shelf → Report → ℕ → Outcome
 makeTimes s report times = makeMore (record { taken = Done; shelf = s }) report times

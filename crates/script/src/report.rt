@@ -9,7 +9,7 @@ use reports::link_change;
 use reports::reduced_functionality;
 use reports::ses_notice;
 ghost use mathlib.Core.Path.{_≡_};
-ghost use Rattle.script.specs.Report.{readTimes, readReport, make, makeTimes};
+ghost use Rattle.script.specs.Report.{readTimes, readReport, makeReport, makeTimes};
 
 pub enum Report {
     Event { phy: u32, source: u32, amount: u32 },
@@ -18,10 +18,10 @@ pub enum Report {
     SesNotice,
 }
 
-// A report that was read and how many times it is made, if it could be read.
-pub enum Told {
-    Says { times: u32, report: Report },
-    Nothing,
+// What a line of a report comes to: the report and how many times it is made, or none that could be read.
+pub enum ReportLine {
+    Makes { times: u32, report: Report },
+    NoReport,
 }
 
 // Reads how many times, which may be left out, as the last number.
@@ -39,14 +39,14 @@ fn read_times(line: &[u8], from: Reading) -> Reading
 
 // Reads a report to the end of the line: `event on phy 2, source 2Dh, amount 12`,
 // `65534 times: link change on phy 0` and the like.
-pub fn read_report(line: &[u8], from: Reading) -> Told
+pub fn read_report(line: &[u8], from: Reading) -> ReportLine
     ensures { λ r. ⌜ r ≡ readReport (now (line .entry)) from ⌝ }
 {
     let start = read_times(line, from);
     let times = start.third;
     let event = read(line, start, b"event on phy #, source $h, amount #");
     if event.whole {
-        return Told::Says {
+        return ReportLine::Makes {
             times,
             report: Report::Event {
                 phy: event.first,
@@ -57,31 +57,31 @@ pub fn read_report(line: &[u8], from: Reading) -> Told
     }
     let link = read(line, start, b"link change on phy #");
     if link.whole {
-        return Told::Says {
+        return ReportLine::Makes {
             times,
             report: Report::LinkChange { phy: link.third },
         };
     }
     let reduced = read(line, start, b"notice of reduced functionality");
     if reduced.whole {
-        return Told::Says {
+        return ReportLine::Makes {
             times,
             report: Report::ReducedFunctionality,
         };
     }
     let ses = read(line, start, b"SES notice");
     if ses.whole {
-        return Told::Says {
+        return ReportLine::Makes {
             times,
             report: Report::SesNotice,
         };
     }
-    Told::Nothing
+    ReportLine::NoReport
 }
 
 // Makes a report. The notices have no refusal.
-fn make(shelf: Shelf, report: Report) -> Outcome
-    ensures { λ r. ⌜ r ≡ make shelf report ⌝ }
+fn make_report(shelf: Shelf, report: Report) -> Outcome
+    ensures { λ r. ⌜ r ≡ makeReport shelf report ⌝ }
 {
     match report {
         Report::Event {
@@ -101,7 +101,8 @@ fn make(shelf: Shelf, report: Report) -> Outcome
     }
 }
 
-// Makes a report that many times, and tells what the last came to.
+// Makes a report that many times, and tells what the last came to. 0 times come to `Done`, with the shelf
+// as it was.
 pub fn make_times(shelf: Shelf, report: Report, times: u32) -> Outcome
     ensures { λ r. ⌜ r ≡ makeTimes shelf report times ⌝ }
 {
@@ -111,7 +112,7 @@ pub fn make_times(shelf: Shelf, report: Report, times: u32) -> Outcome
     };
     for _ in 0..times {
         let before = outcome.shelf;
-        outcome = make(before, report);
+        outcome = make_report(before, report);
     }
     outcome
 }

@@ -8,8 +8,8 @@ ghost use lib.ListN.{drop};
 ghost use Rattle.script.specs.Text.{unread, digit, capped, longer, digits};
 ghost use Rattle.script.specs.Text.{readNumber, readByte, readOne, read};
 
-// How far a line has been read, whether all so far was as the forms have it, whether the line ends
-// there, and the last three numbers.
+// How far a line has been read; whether all so far was as the forms have it (`fits`); whether, at the end
+// of a form, the line ends there too (`whole`); and the last three numbers, the latest as `third`.
 pub struct Reading {
     pub at: usize,
     pub fits: bool,

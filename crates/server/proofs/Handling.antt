@@ -1,14 +1,12 @@
 -- What `served` and `lentAfter` come to, way by way through `serve`. Assumes nothing.
 use Prim.Native.Nat.{ℕ, _≤_, _<_}
-use native.Mathlib.Omega.{arith}
 use mathlib.Core.Path.{_≡_, refl, ap, _∙_}
 use mathlib.Core.Bool.{Bool, true, false, cond}
-use mathlib.Core.Logic.{⊎-elim}
 use mathlib.Core.List.{List, [], _∷_}
 use borrow.Author.Tests.{lt-ltb, le-ltb}
 use denote.Enum.Declared.{tagOf}
 use lib.ListN.{length}
-use types.Run.{OneOf}
+use types.Run.{OneOf, miss}
 use Rattle.model.specs.declared.FunctionResult.{FunctionResult}
 use Rattle.model.specs.declared.House.the-variants.{SourceGroup, ShortBuffer}
 use Rattle.model.specs.declared.Judged.{Judged}
@@ -23,6 +21,14 @@ use Rattle.model.specs.Server.{Handled, Sends, refuse, fail, conclude, handleJu
 use Rattle.model.specs.Writes.{effect}
 use Rattle.model.proofs.Judged.{the-type}
 use Rattle.server.specs.Serving.{judgedReply, drawn, leaves}
+
+-- the variants but `Asked`, by their places in the enum
+abbrev others : List ℕ
+others = 1 ∷ 2 ∷ []
+
+-- what the `else` of a `let Judged::Asked(request) = ..` knows: one of the other variants stands there
+abbrev pub NotAsked : Judged → Type 0
+NotAsked judged = OneOf others (tagOf the-type judged)
 
 module _ (s : Shelf) (g : ℕ) (frame out : List ℕ) where
   -- both halves of what `serve` promises
@@ -50,23 +56,23 @@ module _ (s : Shelf) (g : ℕ) (frame out : List ℕ) where
     unfolding handle
     judged-handled = rw (le-ltb 31 g group, le-ltb (length out) 1028 room)
 
-    -- what the `else` of `let Judged::Asked(request) = ..` knows
-    turned : (judged : Judged) → OneOf (1 ∷ 2 ∷ []) (tagOf the-type judged)
+    -- where no request was read, the judgement is answered and the shelf stays
+    turned : (judged : Judged) → NotAsked judged
         → handleJudged s g frame judged ≡ record { reply = judgedReply (functionOf frame) judged; shelf = s }
-    turned (Asked request) e = absurd (⊎-elim (λ e′. omega (arith, e′)) (λ e′. omega (arith, e′)) e)
+    turned (Asked request) e = absurd (miss others 0 tt e)
     turned (NoFrame house) e = refl
     turned (Fails result) e = refl
 
-    pub serves-judged : OneOf (1 ∷ 2 ∷ []) (tagOf the-type (judge frame))
+    pub serves-judged : NotAsked (judge frame)
         → Serves (record { answer = answer (judgedReply (functionOf frame) (judge frame)); shelf = s })
         (lent out (judgedReply (functionOf frame) (judge frame)))
     serves-judged other = serves _ (judged-handled ∙ turned (judge frame) other)
 
     -- a request that was read: its result draws the response and leaves the shelf
-    concluded : (request : Request) (result : FunctionResult)
+    conclude-halves : (request : Request) (result : FunctionResult)
         → conclude s g frame request result
         ≡ record { reply = Sends (drawn s g request (functionOf frame) result); shelf = leaves s frame request result }
-    concluded request result = go (accepted result)
+    conclude-halves request result = go (accepted result)
       where
         go : (b : Bool)
             → cond b (record { reply = Sends (respond s g request); shelf = effect s frame request }) (fail s frame result)
@@ -84,4 +90,4 @@ module _ (s : Shelf) (g : ℕ) (frame out : List ℕ) where
         (lent out (Sends bytes))
     serves-asked request asks =
         serves _
-        (judged-handled ∙ ap (handleJudged s g frame) asks ∙ concluded request (decide s g frame request))
+        (judged-handled ∙ ap (handleJudged s g frame) asks ∙ conclude-halves request (decide s g frame request))

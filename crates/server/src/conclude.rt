@@ -6,7 +6,7 @@ use model::Shelf;
 use responses::respond;
 use responses::send_result;
 ghost use mathlib.Core.Path.{_≡_};
-ghost use Rattle.replies.specs.Sent.{Sent, ifRoom};
+ghost use Rattle.replies.specs.Sent.{Sent};
 ghost use Rattle.server.specs.Serving.{drawn, leaves};
 
 // The response that this result draws: the accepted one, or the four bytes of a failed result. Gives its
@@ -19,7 +19,7 @@ pub(crate) fn reply(
     result: FunctionResult,
     out: &mut [u8],
 ) -> usize
-    ensures { λ r. ⌜ Sent (now (out .entry)) (ifRoom (now (out .entry)) (drawn shelf source request function result)) r (now (out .exit)) ⌝ }
+    ensures { λ r. ⌜ Sent (now (out .entry)) (drawn shelf source request function result) r (now (out .exit)) ⌝ }
 {
     let FunctionResult::Accepted = result else {
         return send_result(function, result, out);

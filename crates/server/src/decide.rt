@@ -12,7 +12,8 @@ ghost use mathlib.Core.Path.{_≡_};
 ghost use Rattle.model.specs.Request.{phyOf};
 ghost use Rattle.model.specs.Results.{decide};
 
-// The phy of a function that has one.
+// The phy of a function that has one; a request without a phy has 0, and its result
+// does not depend on it.
 fn phy_of(request: Request) -> u8
     ensures { λ r. ⌜ r ≡ phyOf request ⌝ }
 {

@@ -24,13 +24,14 @@ ghost use lib.ListN.{length};
 ghost use Rattle.model.specs.Server.{answer, lent, served, lentAfter};
 ghost use Rattle.server.specs.Serving.{judgedReply};
 
-// What a frame that asks nothing is answered: H6, or 01h or 03h in a failed response.
+// What is answered where no request could be read from the frame: H6, or 01h or 03h in a failed response.
 fn turned_away(judged: Judged, function: u8, out: &mut [u8]) -> Answer
     requires { ⌜ 1028 ≤ length (now out) ⌝ }
     ensures told { λ r. ⌜ r ≡ answer (judgedReply function judged) ⌝ }
     ensures left { λ _. ⌜ now (out .exit) ≡ lent (now (out .entry)) (judgedReply function judged) ⌝ }
 {
     match judged {
+        // never run: `serve` has taken the request out before
         Judged::Asked(_) => Answer::Response(0),
         Judged::NoFrame(house) => Answer::NoResponse(house),
         Judged::Fails(result) => Answer::Response(send_result(function, result, out)),

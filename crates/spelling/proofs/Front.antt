@@ -14,7 +14,7 @@ pub counts : (n : ℕ) (xs : List ℕ) → n ≤ length xs → Counts n xs
 counts n xs h = (h, sym (length-take-le n xs h))
 
 -- there are no more to take than there are
-pub take-min : (k : ℕ) (l : List ℕ) → take (min k (length l)) l ≡ take k l
+take-min : (k : ℕ) (l : List ℕ) → take (min k (length l)) l ≡ take k l
 take-min zero l =
     let e : min 0 (length l) ≡ 0 = omega arith in
     rw e
@@ -39,10 +39,10 @@ three-stores l n a b c h =
     (rw (take-store (set l n a) (n + 1) b (simp length-set (omega arith)), take-store l n a (omega arith))
     (simp append-assoc))))
 
-bytes-append : (xs ys : List ℕ) → bytesText (xs ++ ys) ≡ bytesText xs ++ bytesText ys
+text-append : (xs ys : List ℕ) → bytesText (xs ++ ys) ≡ bytesText xs ++ bytesText ys
 unfolding bytesText
-bytes-append [] ys = refl
-bytes-append (x ∷ xs) ys = rw (bytes-append xs ys)
+text-append [] ys = refl
+text-append (x ∷ xs) ys = rw (text-append xs ys)
 
 -- one byte of a response is spelled
 pub spell-turn : (text response : List ℕ) (i : ℕ) → 3 * i + 3 ≤ length text → i < length response
@@ -54,7 +54,7 @@ pub spell-turn : (text response : List ℕ) (i : ℕ) → 3 * i + 3 ≤ length t
 unfolding bytesText
 spell-turn text response i h k so-far =
     let e : 3 * (i + 1) ≡ 3 * i + 3 = omega arith in
-    rw (e, three-stores text (3 * i) _ _ _ h, so-far, add-one, take-suc response i 0 k, bytes-append)
+    rw (e, three-stores text (3 * i) _ _ _ h, so-far, add-one, take-suc response i 0 k, text-append)
 
 -- the newline after the last
 pub spell-end : (text response : List ℕ) (i n : ℕ) → i ≡ n → n ≡ min 1364 (length response) → 3 * n < length text

@@ -3,13 +3,13 @@ use mathlib.Core.Path.{refl, sym, ap, _∙_}
 use Rattle.model.specs.Settled.{Settled}
 use Rattle.model.proofs.Laws.Settling.{value-settles}
 use Rattle.spelling.proofs.Front.{size-settled, text-settled}
-use Rattle.spelling.proofs.part.within
+use Rattle.spelling.proofs.part.at_most
 use Rattle.spelling.proofs.house_text
 use Rattle.spelling.proofs.set_text
 use Rattle.spelling.proofs.spell
 
-pub within-settled : Settled within.Kinds.ps within.Kinds.r within.Reads.Pre within.Reads.Post
-within-settled = record {
+pub at-most-settled : Settled at_most.Kinds.ps at_most.Kinds.r at_most.Reads.Pre at_most.Reads.Post
+at-most-settled = record {
   asks-nothing = λ κs a. tt;
   same-result = λ κs a x y. x .promised .1 ∙ sym (y .promised .1);
   same-lent = λ κs a x y. refl;

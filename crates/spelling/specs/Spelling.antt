@@ -7,7 +7,7 @@ use lib.ListN.{take}
 use Rattle.model.specs.declared.House.{House}
 use Rattle.model.specs.House.{houseNumber}
 
--- the digit of a value below 16, in uppercase
+-- the digit of a value below 16, in uppercase; `?` stands for any other
 unfoldable pub hexDigit : ℕ → ℕ
 hexDigit v = cond (leb v 9) (0x30 + v) (cond (leb v 15) (0x41 + (v - 10)) 0x3F)
 

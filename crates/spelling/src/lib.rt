@@ -6,13 +6,13 @@ pub mod part;
 
 use gate::numbers::house_number;
 use model::House;
-use part::within;
+use part::at_most;
 ghost use mathlib.Core.Path.{_≡_};
-ghost use lib.ListN.{length, take, drop};
+ghost use lib.ListN.{take, drop};
 ghost use Rattle.spelling.specs.Part.{Counts};
 ghost use Rattle.spelling.specs.Spelling.{hexDigit, houseText, setText, responseText};
 
-// The digit of a value below 16, in uppercase.
+// The digit of a value below 16, in uppercase; `?` stands for any other.
 fn hex_digit(value: u8) -> u8
     ensures { λ r. ⌜ r ≡ hexDigit value ⌝ }
 {
@@ -49,23 +49,6 @@ pub fn set_text(phys: u32) -> [u8; 11]
     ]
 }
 
-// Spells the bytes of a response and gives how long that is.
-fn spell_bytes(response: &[u8], text: &mut [u8]) -> usize
-    requires { ⌜ length (now text) ≡ 4096 ⌝ }
-    ensures size { λ r. ⌜ Counts r (now (text .exit)) ⌝ }
-    ensures spelled { λ r. ⌜ take r (now (text .exit)) ≡ responseText (now (response .entry)) ⌝ }
-    ensures rest { λ r. ⌜ drop r (now (text .exit)) ≡ drop r (now (text .entry)) ⌝ }
-{
-    let n = within(1364, response);
-    for i in 0..n {
-        text[3 * i] = b' ';
-        text[3 * i + 1] = hex_digit(response[i] / 16);
-        text[3 * i + 2] = hex_digit(response[i] % 16);
-    }
-    text[3 * n] = b'\n';
-    3 * n + 1
-}
-
 // Spells the bytes of a response in hexadecimal at the start of the text, with a newline after the
 // last, and gives how long that is; what stands behind stays. There is room for any response, which has
 // at most 400 bytes; from 1,365 bytes on the rest is left out.
@@ -74,5 +57,14 @@ pub fn spell(response: &[u8], text: &mut [u8; 4096]) -> usize
     ensures spelled { λ r. ⌜ take r (now (text .exit)) ≡ responseText (now (response .entry)) ⌝ }
     ensures rest { λ r. ⌜ drop r (now (text .exit)) ≡ drop r (now (text .entry)) ⌝ }
 {
-    spell_bytes(response, text)
+    // a slice, since the proof speaks of its length
+    let written: &mut [u8] = text;
+    let n = at_most(1364, response);
+    for i in 0..n {
+        written[3 * i] = b' ';
+        written[3 * i + 1] = hex_digit(response[i] / 16);
+        written[3 * i + 2] = hex_digit(response[i] % 16);
+    }
+    written[3 * n] = b'\n';
+    3 * n + 1
 }

@@ -1,4 +1,4 @@
--- `results::count_right` meets its contract: "one of the two" is two comparisons. Assumes nothing.
+-- `results::count_right` meets its contract: `oneOf` of the two counts is two comparisons. Assumes nothing.
 use mathlib.Core.Bool.{or-false}
 use Rattle.model.specs.Results.{countRight}
 use Rattle.results.proofs.count_right.Statement.{statement}

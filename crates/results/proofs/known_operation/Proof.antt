@@ -1,4 +1,4 @@
--- `results::known_operation` meets its contract: "one of the list" is the row of comparisons. Assumes nothing.
+-- `results::known_operation` meets its contract: `oneOf` of the list is the row of comparisons. Assumes nothing.
 use mathlib.Core.Bool.{or-assoc, or-false}
 use Rattle.model.specs.Results.{knownOperation}
 use Rattle.results.proofs.known_operation.Statement.{statement}

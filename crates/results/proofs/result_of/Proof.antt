@@ -19,14 +19,14 @@ check-kind-requires c κs = search needs
 enum-told-3 : tie.Need-enum-told-3
 enum-told-3 c = search needs
 
-check-phy-requires : tie.Need-check-phy-requires
-check-phy-requires c κs = search needs
+check-read-requires : tie.Need-check-read-requires
+check-read-requires c κs = search needs
 
 enum-told-4 : tie.Need-enum-told-4
 enum-told-4 c = search needs
 
-check-phy-requires-2 : tie.Need-check-phy-requires-2
-check-phy-requires-2 c κs = search needs
+check-read-requires-2 : tie.Need-check-read-requires-2
+check-read-requires-2 c κs = search needs
 
 enum-known-request-2 : tie.Need-enum-known-request-2
 enum-known-request-2 c = search needs
@@ -54,11 +54,11 @@ returns-3 c = rw (c .before .before .request .given .1) (c .check-kind .ensures)
 
 returns-4 : tie.Need-returns-4
 unfolding resultOf
-returns-4 c = rw (c .before .enum-told3 .given .1) (c .check-phy .ensures)
+returns-4 c = rw (c .before .enum-told3 .given .1) (c .check-read .ensures)
 
 returns-5 : tie.Need-returns-5
 unfolding resultOf
-returns-5 c = rw (c .before .enum-told4 .given .1) (c .check-phy2 .ensures)
+returns-5 c = rw (c .before .enum-told4 .given .1) (c .check-read2 .ensures)
 
 returns-6 : tie.Need-returns-6
 unfolding resultOf
@@ -77,9 +77,9 @@ result-of-spec =
     enum-known-request
     check-kind-requires
     enum-told-3
-    check-phy-requires
+    check-read-requires
     enum-told-4
-    check-phy-requires-2
+    check-read-requires-2
     enum-known-request-2
     check-control-requires
     enum-known-request-3

@@ -3,14 +3,10 @@
 use borrow.Author.Needs.{needs}
 use native.Mathlib.Omega.{arith}
 use mathlib.Core.Path.{sym, subst, _∙_}
-use mathlib.Core.List.{[], _∷_}
-use Rattle.model.proofs.Judged.{the-type}
 use Rattle.replies.proofs.Sending.{has-room}
-use Rattle.server.proofs.Handling.{serves-H4, serves-H5, serves-judged, serves-asked}
+use Rattle.server.proofs.Handling.{NotAsked, serves-H4, serves-H5, serves-judged, serves-asked}
 use Rattle.server.proofs.serve.Statement.{statement}
 use Rattle.server.proofs.serve.Tie as tie
-use denote.Enum.Declared.{tagOf}
-use types.Run.{OneOf}
 
 returns : tie.Need-returns
 returns c =
@@ -45,7 +41,7 @@ returns-3 c =
     let a = told .before .before .before .before .before .before .args in
     rw (away .turned-away .ensures .0, away .turned-away .ensures .1, told .judge .ensures, told .before .byte-at .ensures)
     (serves-judged (a .shelf) (a .source) (a .frame .now) (a .out .now) (omega arith) (omega arith)
-    (subst (λ judged. OneOf (1 ∷ 2 ∷ []) (tagOf the-type judged)) (told .judge .ensures) (other .match .keys2)))
+    (subst NotAsked (told .judge .ensures) (other .match .keys2)))
 
 decide-requires : tie.Need-decide-requires
 decide-requires c κs = search needs

@@ -1,8 +1,8 @@
 -- `spelling::hex_digit` meets its contract. Assumes nothing.
+use borrow.Author.Needs.{needs}
 use native.Mathlib.Omega.{arith}
 use borrow.Author.Tests.{le-leb, lt-leb}
 use Rattle.spelling.specs.Spelling.{hexDigit}
-use borrow.Author.Needs.{needs}
 use Rattle.spelling.proofs.hex_digit.Statement.{statement}
 use Rattle.spelling.proofs.hex_digit.Tie as tie
 

@@ -1,8 +1,8 @@
 -- `cases::request::read_frame` ends and keeps the length of the frame: the measure is how many places of it are left.
 -- Assumes nothing.
+use borrow.Author.Needs.{needs}
 use Prim.Native.Nat.{_-_}
 use mathlib.Core.Path.{_≡_}
-use borrow.Author.Needs.{needs}
 use lib.ListN.{length}
 use Rattle.cases.proofs.request.read_frame.Statement.{statement}
 use Rattle.cases.proofs.request.read_frame.Tie as tie

@@ -91,6 +91,7 @@ slice-aggregate-lay-12 c = search needs
 lay-requires-6 : tie.Need-lay-requires-6
 lay-requires-6 c κs = search needs
 
+-- Each descriptor is laid by a step of its own: one `rw` for all would look through the four written out, which is too much for one call.
 returns : tie.Need-returns
 unfolding reportPhyEvent
 returns c =

@@ -1,6 +1,6 @@
 -- `script::line::line_kind` meets its contract: the tests in their order are those of the definition. Assumes nothing.
-use mathlib.Core.Path.{_≡_}
 use borrow.Author.Needs.{needs}
+use mathlib.Core.Path.{_≡_}
 use borrow.Author.Tests.{ne-eqb}
 use lib.Dec.{eqb}
 use Rattle.model.specs.Bytes.{text}

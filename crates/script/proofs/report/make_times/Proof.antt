@@ -1,11 +1,11 @@
 -- `script::report::make_times` meets its contract. The loop's invariant: made as many times more as are left, it comes to
 -- what the definition says. The measure is how many are left. Assumes nothing.
+use borrow.Author.Needs.{needs}
 use Prim.Native.Nat.{_≤_, _-_}
 use native.Mathlib.Omega.{arith}
 use mathlib.Core.Path.{_≡_, _∙_}
 use Rattle.script.specs.Report.{makeMore}
 use Rattle.script.proofs.Left.{make-turn}
-use borrow.Author.Needs.{needs}
 use Rattle.script.proofs.report.make_times.Statement.{statement}
 use Rattle.script.proofs.report.make_times.Tie as tie
 
@@ -21,8 +21,8 @@ loop-holds c =
     let e : c .args .times - 0 ≡ c .args .times = omega arith in
     (omega arith, rw e)
 
-make-requires : tie.Need-make-requires Inv-loop μ-loop
-make-requires c κs = search needs
+make-report-requires : tie.Need-make-report-requires Inv-loop μ-loop
+make-report-requires c κs = search needs
 
 add-counter : tie.Need-add-counter Inv-loop μ-loop
 add-counter c = search needs
@@ -31,7 +31,7 @@ loop-less : tie.Need-loop-less Inv-loop μ-loop
 loop-less c = search needs
 
 loop-again : tie.Need-loop-again Inv-loop μ-loop
-loop-again c = (omega arith, rw (c .make .ensures) (make-turn _ _ _ _ (omega arith) ∙ c .before .before .before .loop .inv .1))
+loop-again c = (omega arith, rw (c .make-report .ensures) (make-turn _ _ _ _ (omega arith) ∙ c .before .before .before .loop .inv .1))
 
 returns : tie.Need-returns Inv-loop μ-loop
 unfolding makeMore
@@ -42,4 +42,4 @@ returns c =
 pub make-times-spec : {M : Type 1} → statement M
 make-times-spec =
     tie.close
-    (tie.spec Inv-loop μ-loop loop-holds make-requires add-counter loop-less loop-again returns)
+    (tie.spec Inv-loop μ-loop loop-holds make-report-requires add-counter loop-less loop-again returns)

@@ -1,6 +1,6 @@
 -- `script::report::read_times` meets its contract. Assumes nothing.
-use Rattle.script.specs.Report.{readTimes}
 use borrow.Author.Needs.{needs}
+use Rattle.script.specs.Report.{readTimes}
 use Rattle.script.proofs.report.read_times.Statement.{statement}
 use Rattle.script.proofs.report.read_times.Tie as tie
 

@@ -1,6 +1,6 @@
 -- `script::shelf_w::shelf_w` meets its contract: its groups, table and identifier are those of the definition. Assumes nothing.
-use Rattle.model.specs.ShelfW.{shelfW}
 use borrow.Author.Needs.{needs}
+use Rattle.model.specs.ShelfW.{shelfW}
 use Rattle.script.proofs.shelf_w.shelf_w.Statement.{statement}
 use Rattle.script.proofs.shelf_w.shelf_w.Tie as tie
 

@@ -1,8 +1,8 @@
 -- `script::text::digit` meets its contract. Assumes nothing.
+use borrow.Author.Needs.{needs}
 use native.Mathlib.Omega.{arith}
 use borrow.Author.Tests.{le-leb, lt-leb}
 use Rattle.script.specs.Text.{digit}
-use borrow.Author.Needs.{needs}
 use Rattle.script.proofs.text.digit.Statement.{statement}
 use Rattle.script.proofs.text.digit.Tie as tie
 

@@ -1,11 +1,11 @@
 -- `script::text::digits` meets its contract. The loop's invariant: going on from here comes to what the
 -- definition says. The measure is how many bytes of the line are left. Assumes nothing.
+use borrow.Author.Needs.{needs}
 use Prim.Native.Nat.{_-_}
 use mathlib.Core.Path.{_≡_, sym, _∙_}
 use lib.ListN.{length, drop}
 use Rattle.script.specs.Text.{digits}
 use Rattle.script.proofs.Left.{digits-turn, digits-stop, digits-end}
-use borrow.Author.Needs.{needs}
 use Rattle.script.proofs.text.digits.Statement.{statement}
 use Rattle.script.proofs.text.digits.Tie as tie
 

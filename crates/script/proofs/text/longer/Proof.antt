@@ -1,8 +1,8 @@
 -- `script::text::longer` meets its contract. Assumes nothing.
+use borrow.Author.Needs.{needs}
 use native.Mathlib.Omega.{arith}
 use borrow.Author.Tests.{eq-eqb, ne-eqb}
 use Rattle.script.specs.Text.{longer}
-use borrow.Author.Needs.{needs}
 use Rattle.script.proofs.text.longer.Statement.{statement}
 use Rattle.script.proofs.text.longer.Tie as tie
 

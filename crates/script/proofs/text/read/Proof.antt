@@ -1,12 +1,12 @@
 -- `script::text::read` meets its contract. The loop's invariant: reading on by what is left of the form comes
 -- to what the definition says. The measure is how many bytes of the form are left. Assumes nothing.
+use borrow.Author.Needs.{needs}
 use Prim.Native.Nat.{_≤_, _-_}
 use native.Mathlib.Omega.{arith}
 use mathlib.Core.Path.{_≡_, refl, sym, _∙_}
 use lib.ListN.{length, drop}
 use Rattle.script.specs.Text.{read, readEach}
 use Rattle.script.proofs.Left.{read-turn, read-end}
-use borrow.Author.Needs.{needs}
 use Rattle.script.proofs.text.read.Statement.{statement}
 use Rattle.script.proofs.text.read.Tie as tie
 

@@ -1,7 +1,7 @@
 -- `script::text::read_byte` meets its contract. Assumes nothing.
+use borrow.Author.Needs.{needs}
 use borrow.Author.Tests.{lt-ltb, le-ltb}
 use Rattle.script.specs.Text.{readByte}
-use borrow.Author.Needs.{needs}
 use Rattle.script.proofs.text.read_byte.Statement.{statement}
 use Rattle.script.proofs.text.read_byte.Tie as tie
 

@@ -1,6 +1,6 @@
 -- `script::text::read_number` meets its contract. Assumes nothing.
-use Rattle.script.specs.Text.{readNumber}
 use borrow.Author.Needs.{needs}
+use Rattle.script.specs.Text.{readNumber}
 use Rattle.script.proofs.text.read_number.Statement.{statement}
 use Rattle.script.proofs.text.read_number.Tie as tie
 

@@ -1,7 +1,7 @@
 -- `script::text::read_one` meets its contract: at each mark the definition is left with what it stands for. Assumes nothing.
+use borrow.Author.Needs.{needs}
 use borrow.Author.Tests.{ne-eqb}
 use Rattle.script.specs.Text.{readOne}
-use borrow.Author.Needs.{needs}
 use Rattle.script.proofs.text.read_one.Statement.{statement}
 use Rattle.script.proofs.text.read_one.Tie as tie
 

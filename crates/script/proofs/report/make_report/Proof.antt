@@ -1,9 +1,9 @@
--- `script::report::make` meets its contract: at each report the definition is left with that report's own outcome.
+-- `script::report::make_report` meets its contract: at each report the definition is left with that report's own outcome.
 -- Assumes nothing.
-use Rattle.script.specs.Report.{make}
 use borrow.Author.Needs.{needs}
-use Rattle.script.proofs.report.make.Statement.{statement}
-use Rattle.script.proofs.report.make.Tie as tie
+use Rattle.script.specs.Report.{makeReport}
+use Rattle.script.proofs.report.make_report.Statement.{statement}
+use Rattle.script.proofs.report.make_report.Tie as tie
 
 enum-known-report : tie.Need-enum-known-report
 enum-known-report c = search needs
@@ -30,23 +30,23 @@ ses-notice-requires : tie.Need-ses-notice-requires
 ses-notice-requires c κs = search needs
 
 returns : tie.Need-returns
-unfolding make
+unfolding makeReport
 returns c = rw (c .before .before .report .given .1) (c .event .ensures)
 
 returns-2 : tie.Need-returns-2
-unfolding make
+unfolding makeReport
 returns-2 c = rw (c .before .before .report2 .given .1) (c .link-change .ensures)
 
 returns-3 : tie.Need-returns-3
-unfolding make
+unfolding makeReport
 returns-3 c = rw (c .before .enum-told .given .1, c .reduced-functionality .ensures)
 
 returns-4 : tie.Need-returns-4
-unfolding make
+unfolding makeReport
 returns-4 c = rw (c .before .enum-told2 .given .1, c .ses-notice .ensures)
 
-pub make-spec : {M : Type 1} → statement M
-make-spec =
+pub make-report-spec : {M : Type 1} → statement M
+make-report-spec =
     tie.close
     (tie.spec
     enum-known-report
