@@ -1,8 +1,9 @@
-// What a report does to the numbers of one phy.
+// What an event report, and originating Change, do to the numbers of one phy.
 use crate::counts::add_saturating;
 use crate::counts::add_wrapping;
 use crate::counts::originate;
 use crate::sources::peak;
+use crate::sources::within;
 use model::Monitor;
 use model::Phy;
 ghost use mathlib.Core.Path.{_≡_};
@@ -83,7 +84,7 @@ fn add_error(source: u32, amount: u32, errors: [u32; 4]) -> [u32; 4]
     ensures { λ r. ⌜ r ≡ addError source amount errors ⌝ }
 {
     let mut after = errors;
-    if (0x01 <= source) & (source <= 0x04) {
+    if within(0x01, 0x04, source) {
         let i = (source - 1) as usize;
         after[i] = add_saturating(errors[i], amount);
     }
