@@ -42,7 +42,7 @@ count-is : (c : tie.Joined1)
     c .if1 .changes ≡ cond (controlChanges (a .operation) (phyAt (a .shelf) (a .phy))) (originate changes) changes
 count-is c =
     let tested = read (c .before) .1 in
-    ⊎-elim (λ way. rw (sym tested ∙ way .0 .taken, ← way .1 .ensures) (way .2))
+    ⊎-elim (λ way. rw (sym tested ∙ way .0 .taken) (way .2 ∙ way .1 .ensures))
     (λ way. rw (sym tested ∙ way .0 .left) (way .1))
     (c .if1 .came)
 
