@@ -1,17 +1,10 @@
 -- 06h: "then n descriptors of 8 bytes". The list is written into the lent buffer as it is walked.
 use Prim.Native.Nat.{ℕ, _+_, _*_}
 use mathlib.Core.Path.{_≡_}
-use mathlib.Core.Bool.{cond}
-use mathlib.Core.List.{List, []}
+use mathlib.Core.List.{List}
 use lib.ListN.{length}
 use lib.Seq.{sets}
-use Rattle.model.specs.declared.Phy.{Phy}
-use Rattle.model.specs.Reply.{Broadcast, phyListed, broadcastBytes}
-use Rattle.model.specs.Zone.{rowReaches}
-
--- "A source sees FFh and the phys it reaches": what a source with this row sees of one phy.
-abbrev pub seenListed : ℕ → ℕ → ℕ → Phy → List Broadcast
-seenListed row kind p x = cond (rowReaches row (x .group)) (phyListed kind p x) []
+use Rattle.model.specs.Reply.{Broadcast, broadcastBytes}
 
 -- The buffer with the descriptors of these broadcasts, from the place of descriptor n on: 8 bytes come before the first.
 abbrev pub listedFrom : List ℕ → ℕ → List Broadcast → List ℕ

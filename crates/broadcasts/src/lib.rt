@@ -13,8 +13,8 @@ use shelf::table::row;
 ghost use mathlib.Core.Path.{_≡_};
 ghost use Prim.Native.Nat.{_+_, _*_, _≤_};
 ghost use lib.ListN.{length};
-ghost use Rattle.model.specs.Reply.{listed, deviceListed, phyListed, broadcasts, broadcastHead, reportBroadcast};
-ghost use Rattle.broadcasts.specs.Listed.{seenListed, Lists};
+ghost use Rattle.model.specs.Reply.{listed, deviceListed, phyListed, seenListed, broadcasts, broadcastHead, reportBroadcast};
+ghost use Rattle.broadcasts.specs.Listed.{Lists};
 ghost use Rattle.replies.specs.Sent.{Sent, ifRoom};
 
 // One count of the list, as descriptor n, unless it is 0: "Every non-zero count". Gives how many

@@ -1,22 +1,39 @@
--- The two halves joined. The code keeps its promises, and the model's runs meet the demands; here: a run of the code goes, call by call,
--- exactly as the model's run (`calls-run`), and so demand 3 holds of what the code returns (`calls-demand-3`). Assumes nothing.
+-- The two halves joined. The code keeps its promises, and the model's runs meet the demands. Here: a run of the code goes, call by call,
+-- exactly as the model's run (`run-last`, `run-answers`), and so demand 3 holds of what the code returns (`calls-demand-3`).
+-- Assumes nothing.
 use Prim.Native.Nat.{ℕ}
 use mathlib.Core.Path.{_≡_, refl, sym, ap, subst, _∙_}
 use mathlib.Core.List.{List, [], _∷_, _++_}
+use contract.Lifetimes.{Lfts}
+use borrow.Fn.Kinds.{Dens}
 use Rattle.model.specs.declared.Shelf.{Shelf}
+use Rattle.model.specs.declared.Taken.{Taken}
 use Rattle.model.specs.declared.Taken.the-variants.{Done}
 use Rattle.model.specs.CrossedOut.{remains}
 use Rattle.model.specs.Runs.{next, after, told, answers}
 use Rattle.model.specs.Server.{served}
-use Rattle.model.proofs.Demands.Isolation.{demand-3}
+use Rattle.model.specs.Settled.{Allowed}
 use Rattle.model.specs.Shelf.{start as startOf}
-use Rattle.model.specs.declared.Taken.{Taken}
+use Rattle.model.proofs.Demands.Isolation.{demand-3}
 use Rattle.shelf.proofs.Settled.{start-settled}
 use Rattle.shelf.proofs.start.start
-use Rattle.model.specs.Settled.{Allowed}
-use contract.Lifetimes.{Lfts}
-use borrow.Fn.Kinds.{Dens}
-use Rattle.calls.specs.Calls.{Call, serve-call, event-call, link-change-call, reduced-functionality-call, ses-notice-call, reach-query-call, handed, back, operation, got, RunFrom, operations, last, gotAll}
+use Rattle.calls.specs.Calls.{
+  Call,
+  serve-call,
+  event-call,
+  link-change-call,
+  reduced-functionality-call,
+  ses-notice-call,
+  reach-query-call,
+  handed,
+  back,
+  operation,
+  got,
+  RunFrom,
+  operations,
+  last,
+  gotAll,
+}
 
 -- One call: the shelf that came back is the model's next shelf,
 pub back-next : (call : Call) → back call ≡ next (handed call) (operation call)
@@ -28,7 +45,7 @@ back-next (reduced-functionality-call c) = c .outcome .promised
 back-next (ses-notice-call c) = c .outcome .promised
 back-next (reach-query-call c) = refl
 
--- and what a group got is what the model's operation tells it.
+-- and what a group got is what the model tells it.
 pub got-told : (g : ℕ) (call : Call) → got g call ≡ told g (handed call) (operation call)
 unfolding handed operation got told
 got-told g (serve-call c) = rw (c .outcome .promised .0, c .outcome .promised .1)
@@ -38,28 +55,29 @@ got-told g (reduced-functionality-call c) = refl
 got-told g (ses-notice-call c) = refl
 got-told g (reach-query-call c) = rw (c .outcome .promised)
 
--- A run: after each of its calls the shelf is the model's,
+-- the first of these, where the shelf that was handed in is known
+back-from : (s : Shelf) (call : Call) → handed call ≡ s → back call ≡ next s (operation call)
+back-from s call from = back-next call ∙ ap (λ t. next t (operation call)) from
+
+-- A run: the shelf that came back last is the model's,
 pub run-last : (s : Shelf) (calls : List Call) → RunFrom s calls → last s calls ≡ after s (operations calls)
 unfolding RunFrom operations last after
 run-last s [] run = refl
 run-last s (call ∷ calls) (from, rest) =
-    let back-is : back call ≡ next s (operation call) = back-next call ∙ ap (λ t. next t (operation call)) from in
-    run-last (back call) calls rest ∙ ap (λ t. after t (operations calls)) back-is
+    run-last (back call) calls rest ∙ ap (λ t. after t (operations calls)) (back-from s call from)
 
--- and what a group got in it are the model's answers.
+-- and what a group got are the model's answers.
 pub run-answers : (g : ℕ) (s : Shelf) (calls : List Call) → RunFrom s calls → gotAll g calls ≡ answers g s (operations calls)
 unfolding RunFrom operations gotAll answers
 run-answers g s [] run = refl
 run-answers g s (call ∷ calls) (from, rest) =
-    let back-is : back call ≡ next s (operation call) = back-next call ∙ ap (λ t. next t (operation call)) from in
-    let now-is : got g call ≡ told g s (operation call) = got-told g call ∙ ap (λ t. told g t (operation call)) from in
-    rw (now-is, run-answers g (back call) calls rest, back-is)
+    let now : got g call ≡ told g s (operation call) = got-told g call ∙ ap (λ t. told g t (operation call)) from in
+    rw (now, run-answers g (back call) calls rest, back-from s call from)
 
--- Demand 3 of what the code returns. Two shelves were started with the same arguments, and each was then run: if what remains of the two
--- runs is the same for a group, that group got the same in both, with all that the lent buffers then held.
+-- Demand 3 of what the code returns. Two shelves were started with the same arguments, and each was then run. If what remains of the
+-- two runs is the same for a group, that group got the same in both, with all that its lent buffers then held.
 pub calls-demand-3 : (κs : Lfts 0) (arguments : Dens κs start.Kinds.ps)
-    (x y : Allowed start.Kinds.ps start.Kinds.r start.Reads.Post κs arguments)
-    → x .result .taken ≡ Done
+    (x y : Allowed start.Kinds.ps start.Kinds.r start.Reads.Post κs arguments) → x .result .taken ≡ Done
     → (g : ℕ) (one other : List Call) → RunFrom (x .result .shelf) one → RunFrom (y .result .shelf) other
     → remains g (x .result .shelf) (operations one) ≡ remains g (y .result .shelf) (operations other)
     → gotAll g one ≡ gotAll g other
@@ -68,7 +86,8 @@ calls-demand-3 κs arguments x y done g one other run-one run-other same =
     let same-start : y .result .shelf ≡ s = ap (λ r. r .shelf) (start-settled .same-result κs arguments y x) in
     let started : startOf (arguments .0) (arguments .1 .0) (arguments .1 .1 .0) (arguments .1 .1 .1 .0) ≡ record { taken = Done; shelf = s } =
     sym (x .promised) ∙ ap (λ (t : Taken). record { taken = t; shelf = s }) done in
-    let same-left : remains g s (operations one) ≡ remains g s (operations other) = same ∙ ap (λ t. remains g t (operations other)) same-start in
+    let same-remains : remains g s (operations one) ≡ remains g s (operations other) =
+    same ∙ ap (λ t. remains g t (operations other)) same-start in
     run-answers g s one run-one
-    ∙ demand-3 _ _ _ _ s started g (operations one) (operations other) same-left
+    ∙ demand-3 _ _ _ _ s started g (operations one) (operations other) same-remains
     ∙ sym (run-answers g s other (subst (λ t. RunFrom t other) same-start run-other))

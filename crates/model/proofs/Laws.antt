@@ -11,9 +11,10 @@ pub mod Places
 pub mod Lowest
 pub mod Drawn
 pub mod Checks
--- a request's whole way, what a phy's changes keep, and what every operation keeps
+-- a request's whole way, and what a phy's changes keep
 pub mod Handled
 pub mod PhyChanges
+-- what every operation keeps: this one leans on `Plain`, which leans on the others here
 pub mod Steps
 -- promises that settle their outcome, for the crates above
 pub mod Settling

@@ -5,26 +5,36 @@ use Rattle.model.specs.CrossedOut.{remains}
 use Rattle.model.specs.Runs.{answers}
 use Rattle.model.specs.ShelfW.{shelfW}
 use Rattle.model.specs.Vectors.CrossedOut.{crossed, stay, whole, rest}
-use Rattle.model.specs.Vectors.EasilyWrong.{easilyWrong}
-use Rattle.model.specs.Vectors.Frames.{frames}
+use Rattle.model.specs.Vectors.EasilyWrong.{easilyWrong1to4, easilyWrong5}
+use Rattle.model.specs.Vectors.Frames.{reads, controls, configures, ignored}
 use Rattle.model.specs.Vectors.Peaks.{peaks}
 use Rattle.model.specs.Vectors.Refusals.{refusals}
 use Rattle.model.specs.Vectors.Results.{results}
-use Rattle.model.specs.Vectors.Starts.{starts}
+use Rattle.model.specs.Vectors.Starts.{freshStarts, startsTaken}
 use Rattle.model.specs.Vectors.Stays.{stays}
 use Rattle.model.specs.Vectors.Told.{mixed, to8, to32}
 use Rattle.model.proofs.Computes.{computes}
 use Rattle.model.proofs.Holds.{Holds, Fate}
 
-pub easily-wrong-hold : Holds easilyWrong
-unfolding easilyWrong computes
-easily-wrong-hold =
-    (refl, (refl, (refl, (refl, (refl, (refl, (refl, (refl, (refl, (refl, (refl, tt)))))))))))
+pub easily-wrong-1-to-4-hold : Holds easilyWrong1to4
+unfolding easilyWrong1to4 computes
+easily-wrong-1-to-4-hold =
+    (refl, (refl, (refl, (refl, (refl, (refl, (refl, tt)))))))
 
-pub starts-hold : Holds starts
-unfolding starts computes
-starts-hold =
-    (refl, (refl, (refl, (refl, (refl, (refl, (refl, (refl, (refl, (refl, (refl, tt)))))))))))
+pub easily-wrong-5-hold : Holds easilyWrong5
+unfolding easilyWrong5 computes
+easily-wrong-5-hold =
+    (refl, (refl, (refl, (refl, tt))))
+
+pub fresh-starts-hold : Holds freshStarts
+unfolding freshStarts computes
+fresh-starts-hold =
+    (refl, (refl, (refl, (refl, (refl, (refl, (refl, (refl, tt))))))))
+
+pub starts-taken-hold : Holds startsTaken
+unfolding startsTaken computes
+starts-taken-hold =
+    (refl, (refl, (refl, tt)))
 
 pub refusals-hold : Holds refusals
 unfolding refusals computes
@@ -36,10 +46,25 @@ unfolding results computes
 results-hold =
     (refl, (refl, (refl, (refl, (refl, (refl, (refl, (refl, (refl, (refl, (refl, (refl, (refl, (refl, (refl, (refl, (refl, (refl, (refl, (refl, (refl, (refl, (refl, (refl, tt))))))))))))))))))))))))
 
-pub frames-hold : Holds frames
-unfolding frames computes
-frames-hold =
-    (refl, (refl, (refl, (refl, (refl, (refl, (refl, (refl, (refl, (refl, (refl, (refl, (refl, (refl, (refl, (refl, (refl, (refl, (refl, (refl, (refl, (refl, (refl, tt)))))))))))))))))))))))
+pub reads-hold : Holds reads
+unfolding reads computes
+reads-hold =
+    (refl, (refl, (refl, (refl, (refl, (refl, (refl, tt)))))))
+
+pub controls-hold : Holds controls
+unfolding controls computes
+controls-hold =
+    (refl, (refl, (refl, (refl, (refl, (refl, (refl, tt)))))))
+
+pub configures-hold : Holds configures
+unfolding configures computes
+configures-hold =
+    (refl, (refl, (refl, (refl, (refl, tt)))))
+
+pub ignored-hold : Holds ignored
+unfolding ignored computes
+ignored-hold =
+    (refl, (refl, (refl, (refl, tt))))
 
 pub stays-hold : Holds stays
 unfolding stays computes

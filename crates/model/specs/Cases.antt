@@ -1,4 +1,4 @@
--- "The marked (P) cases are proved of the definitions, gathered as a single checked list." Cases 1 to 11, each with what was asked and
+-- "The marked (P) cases are proved of the definitions, gathered as a single checked list": cases 1 to 11, each with what was asked and
 -- what must come. "Freshly started for each case; where no source is named it is 1." `proofs/Cases` has the theorem that all hold.
 use Prim.Native.Nat.{ℕ}
 use mathlib.Core.List.{List, [], _∷_, _++_}
@@ -26,52 +26,54 @@ pub data Question : Type 0 where
   Look : (Shelf → List ℕ) → Question
 
 -- What comes: a house refusal by its number, the bytes of a response, a reach set and its number, or the shelf's numbers.
-pub data Seen : Type 0 where
-  H : ℕ → Seen
-  Bytes : List ℕ → Seen
-  Set : ℕ → ℕ → Seen
-  Numbers : List ℕ → Seen
+pub data Comes : Type 0 where
+  H : ℕ → Comes
+  Bytes : List ℕ → Comes
+  Set : ℕ → ℕ → Comes
+  Numbers : List ℕ → Comes
 
--- A case: document 01's number for it, the shelf, what happens first, what is asked, and what must come.
+-- A case: a number for the reader (here document 01's; the vectors say what theirs is), the shelf, what happens first, what is asked,
+-- and what must come.
 pub record Case : Type 0 where
   pub number : ℕ
   pub shelf : Shelf
   pub first : List Operation
   pub asked : Question
-  pub due : Seen
+  pub due : Comes
 
-abbrev pub ofReply : Reply → Seen
+abbrev pub ofReply : Reply → Comes
 ofReply (Refuses house) = H (houseNumber house)
 ofReply (Sends bytes) = Bytes bytes
 
-abbrev pub ofReach : Reach → Seen
+abbrev pub ofReach : Reach → Comes
 ofReach (Reaches phys number) = Set phys number
 ofReach (NoReach house) = H (houseNumber house)
 
-abbrev pub find : Shelf → Question → Seen
+abbrev pub find : Shelf → Question → Comes
 find s (Send g frame) = ofReply (handle s g frame 1028 .reply)
 find s (Lend room g frame) = ofReply (handle s g frame room .reply)
 find s (ReachOf g) = ofReach (reachQuery s g)
 find s (Look at) = Numbers (at s)
 
-abbrev pub came : Case → Seen
+abbrev pub came : Case → Comes
 came c = find (after (c .shelf) (c .first)) (c .asked)
 
 -- a request that is sent before the question
 abbrev pub sent : ℕ → List ℕ → Operation
 sent g frame = Ask g frame (zeros 1028)
 
--- a case on shelf W with nothing before it, and one with something before it
-abbrev pub fresh : ℕ → Question → Seen → Case
-fresh n asked due = record { number = n; shelf = shelfW; first = []; asked = asked; due = due }
-
-abbrev pub on : ℕ → Shelf → List Operation → Question → Seen → Case
+-- a case on some shelf, with what happens first
+abbrev pub on : ℕ → Shelf → List Operation → Question → Comes → Case
 on n s first asked due = record { number = n; shelf = s; first = first; asked = asked; due = due }
 
--- every broadcast count of shelf W: those under FFh, then each phy's three
+-- a case on shelf W, freshly started, with nothing before it
+abbrev pub fresh : ℕ → Question → Comes → Case
+fresh n asked due = on n shelfW [] asked due
+
 abbrev pub phyBroadcasts : Phy → List ℕ
 phyBroadcasts x = x .change0 ∷ x .expander1 ∷ x .expander2 ∷ []
 
+-- every broadcast count of shelf W: those under FFh, then each phy's three
 abbrev pub broadcastCounts : Shelf → List ℕ
 broadcastCounts s =
     (s .expander3 ∷ s .ses0 ∷ [])
@@ -81,8 +83,8 @@ broadcastCounts s =
     ++ phyBroadcasts (phyAt s 3)
 
 -- Case 10 starts from shelf W with the change count at FFFFh.
-abbrev pub lastCount : Shelf
-lastCount = put shelfW 0 (phyAt shelfW 0) 0xFFFF
+abbrev pub lastCountW : Shelf
+lastCountW = put shelfW 0 (phyAt shelfW 0) 0xFFFF
 
 -- Case 11 starts from shelf W with phy 0's first monitor on 01h at FFFFFFFEh, and its invalid dwords at FFFFFFFEh.
 abbrev pub nearEnd : Phy → Phy
@@ -134,7 +136,7 @@ cases =
     (Send 1 (hex "40 06 04 00"))
     (Bytes (hex "41 06 00 03 00 01 04 01 FF 00 03 00 00 01 00 00"))
     -- 10. Change count FFFFh, then a link change: 0001h.
-    ∷ on 10 lastCount (LinkChange 0 ∷ []) (Look (λ s. s .changes ∷ [])) (Numbers (0x0001 ∷ []))
+    ∷ on 10 lastCountW (LinkChange 0 ∷ []) (Look (λ s. s .changes ∷ [])) (Numbers (0x0001 ∷ []))
     -- 11. Value FFFFFFFEh on 01h, amount 3: value 00000001h; an error count at FFFFFFFEh: FFFFFFFFh.
     ∷ on 11 nearEndW
     (Event 0 0x01 3 ∷ [])

@@ -14,6 +14,10 @@ use Rattle.model.specs.Tests.{within}
 unfoldable pub originate : ℕ → ℕ
 originate count = cond (eqb count 0xFFFF) 0x0001 (count + 1)
 
+-- a count that is originated, or not
+abbrev pub originateIf : Bool → ℕ → ℕ
+originateIf b count = cond b (originate count) count
+
 -- "counting values wrap at 32 bits"
 abbrev pub addWrapping : ℕ → ℕ → ℕ
 addWrapping value amount = (value + amount) % 2 ^ 32
@@ -41,7 +45,7 @@ crosses before after = peak (before .source) && ltb (before .value) (before .thr
 unfoldable pub originateCrossings : ℕ → ℕ → List Monitor → ℕ → ℕ
 originateCrossings source amount [] count = count
 originateCrossings source amount (m ∷ ms) count =
-    originateCrossings source amount ms (cond (crosses m (counted source amount m .value)) (originate count) count)
+    originateCrossings source amount ms (originateIf (crosses m (counted source amount m .value)) count)
 
 -- "Sources 01h to 04h also add to the four error counts in the order above"
 unfoldable pub addError : ℕ → ℕ → List ℕ → List ℕ

@@ -1,4 +1,4 @@
--- "House refusals: no frame is written." "The answer holds the number and nothing else; state and buffer stay."
+-- "House refusals: no frame is written". "The answer holds the number and nothing else; state and buffer stay."
 -- What each is given for stands where it is given: H1 to H3 in `Shelf`, H4 in `Reach` and `Server`, H5 in `Server`,
 -- H6 in `Request`, H7 to H9 in `Reports`. "The lowest number that applies is given": there they stand in rising order.
 use Prim.Native.Nat.{ℕ}

@@ -1,4 +1,4 @@
--- "Frames": the response to each function, byte by byte.
+-- "Frames": the response to each function, byte by byte. (What a request is replied, with a refusal among it, is `Reply` of `Server`.)
 use Prim.Native.Nat.{ℕ, _+_, _-_, _*_}
 use mathlib.Core.Bool.{cond}
 use mathlib.Core.List.{List, [], _∷_, _++_}
@@ -12,16 +12,16 @@ use Rattle.model.specs.declared.Request.the-variants.{ReportPhyErrorLog,
 use Rattle.model.specs.declared.Request.the-variants.{ConfigurePhyEvent}
 use Rattle.model.specs.declared.Shelf.{Shelf}
 use Rattle.model.specs.Bytes.{one, two, four, text, zeros, laid}
-use Rattle.model.specs.Reach.{reaches}
 use Rattle.model.specs.Shelf.{phyNumber, phyAt, freshMonitor}
 use Rattle.model.specs.Tests.{joinBelow}
+use Rattle.model.specs.Zone.{row, rowReaches}
 
 -- "A failed response is 41h, the function, the result, 00h."
 abbrev pub failed : ℕ → ℕ → List ℕ
 failed function result = 0x41 ∷ function ∷ result ∷ 0x00 ∷ []
 
 -- "Response byte 0 is 41h, byte 1 the function, byte 2 the result, byte 3 the number of dwords that follow. Bytes not named
--- are 0." An accepted one: its function, its size in bytes, its length in dwords, and the bytes that are named.
+-- are 0". An accepted one: its function, its size in bytes, its length in dwords, and the bytes that are named.
 abbrev pub response : ℕ → ℕ → ℕ → List (ℕ × List ℕ) → List ℕ
 response function size dwords named = laid (0x41 ∷ function ∷ 0x00 ∷ dwords ∷ zeros (size - 4)) named
 
@@ -82,8 +82,11 @@ pub record Broadcast : Type 0 where
   pub reason : ℕ
   pub count : ℕ
 
+abbrev pub entry : ℕ → ℕ → ℕ → Broadcast
+entry p r n = record { phy = p; reason = r; count = n }
+
 abbrev pub listed : ℕ → ℕ → ℕ → List Broadcast
-listed p r n = cond (eqb n 0) [] (record { phy = p; reason = r; count = n } ∷ [])
+listed p r n = cond (eqb n 0) [] (entry p r n ∷ [])
 
 -- "two broadcast counts under FFh: Expander 3h (reduced functionality) and SES 0h"; SES is type 3h, Expander type 4h
 unfoldable pub deviceListed : ℕ → ℕ → ℕ → List Broadcast
@@ -99,12 +102,16 @@ phyListed kind p x =
     (cond (eqb kind 0x4) (listed p 0x1 (x .expander1) ++ listed p 0x2 (x .expander2))
     [])
 
+-- "A source sees FFh and the phys it reaches": what a source with this row sees of phy p
+abbrev pub seenListed : ℕ → ℕ → ℕ → Phy → List Broadcast
+seenListed r kind p x = cond (rowReaches r (x .group)) (phyListed kind p x) []
+
 -- "Every non-zero count of that type that the source may see is listed: FFh first, then phys rising, then reason rising.
 -- A source sees FFh and the phys it reaches. Types other than 0h, 3h and 4h list nothing."
 unfoldable pub broadcasts : Shelf → ℕ → ℕ → List Broadcast
 broadcasts s g kind =
     deviceListed kind (s .expander3) (s .ses0)
-    ++ joinBelow (phyNumber s) (λ p. cond (reaches s g p) (phyListed kind p (phyAt s p)) [])
+    ++ joinBelow (phyNumber s) (λ p. seenListed (row (s .table) g) kind p (phyAt s p))
 
 -- "n descriptors of 8 bytes .. Descriptor: 0 phy, 2 reason, 4 and 5 count." (A T10 paper shows it as 16 bytes too; 8 holds.)
 abbrev pub broadcastDescriptor : Broadcast → List ℕ

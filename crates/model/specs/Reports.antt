@@ -29,10 +29,14 @@ unfoldable pub event : Shelf → ℕ → ℕ → ℕ → Outcome
 event s p source amount =
     outcome (eventTaken (exists s p) source amount) s (put s p (eventOn source amount (phyAt s p)) (s .changes))
 
+-- a link change: H7 alone
+abbrev pub linkChangeTaken : Bool → Taken
+linkChangeTaken there = given (not there) (NotDone NoSuchPhy) Done
+
 -- A link change originates Change, whether or not the phy is enabled, and moves the change count.
 unfoldable pub linkChange : Shelf → ℕ → Outcome
 linkChange s p =
-    outcome (given (not (exists s p)) (NotDone NoSuchPhy) Done) s
+    outcome (linkChangeTaken (exists s p)) s
     (put s p (changeOn (phyAt s p .enabled) (phyAt s p)) (originate (s .changes)))
 
 -- The two device notices; neither has a refusal.

@@ -1,5 +1,5 @@
--- "Judging one request frame alone (function and H6, 01h, 03h or nothing wrong)." "Judging yields the read request or a refusal;
--- the server takes its requests from there only." "The link layer strips and checks the CRC. All frames here are without it."
+-- "judging one request frame alone (function and H6, 01h, 03h or nothing wrong)". "Judging yields the read request or a refusal;
+-- the server takes its requests from there only." "The link layer strips and checks the CRC. All frames here are without it".
 use Prim.Native.Nat.{ℕ, zero, suc, _+_, _*_}
 use mathlib.Core.Bool.{Bool, not, cond, _&&_, _||_}
 use mathlib.Core.List.{List, [], _∷_}
@@ -47,6 +47,10 @@ lengthRight frame =
     || shaped frame 0x91 40 (0x09 ∷ 0x00 ∷ [])
     || shaped frame 0x93 (12 + 8 * byte frame 11) ((2 + 2 * byte frame 11) ∷ [])
 
+-- 93h: "bit 0 of byte 6 clears peaks"
+abbrev pub clears : List ℕ → Bool
+clears frame = bit (byte frame 6) 0
+
 -- What a frame of a known function and a right length asks: "type in byte 2" (06h), phy in byte 9, the expected count in
 -- "bytes 4 and 5" (91h and 93h), "operation in byte 10" (91h), "d in byte 11, bit 0 of byte 6 clears peaks" (93h).
 unfoldable pub asked : List ℕ → Request
@@ -57,7 +61,14 @@ asked frame =
     (cond (eqb (functionOf frame) 0x11) (ReportPhyErrorLog (byte frame 9))
     (cond (eqb (functionOf frame) 0x14) (ReportPhyEvent (byte frame 9))
     (cond (eqb (functionOf frame) 0x91) (PhyControl (word frame 4) (byte frame 9) (byte frame 10))
-    (ConfigurePhyEvent (word frame 4) (bit (byte frame 6) 0) (byte frame 9) (byte frame 11)))))))
+    (ConfigurePhyEvent (word frame 4) (clears frame) (byte frame 9) (byte frame 11)))))))
+
+unfoldable pub judge : List ℕ → Judged
+judge frame =
+    given (badFrame frame) (NoFrame BadFrame)
+    (check (known (functionOf frame)) (Fails UnknownSmpFunction)
+    (check (lengthRight frame) (Fails InvalidRequestFrameLength)
+    (Asked (asked frame))))
 
 -- the phy of a function that has one; a request without a phy names none, and nothing asks for it
 abbrev pub phyOf : Request → ℕ
@@ -68,13 +79,6 @@ phyOf (ReportPhyErrorLog p) = p
 phyOf (ReportPhyEvent p) = p
 phyOf (PhyControl expected p operation) = p
 phyOf (ConfigurePhyEvent expected clear p d) = p
-
-unfoldable pub judge : List ℕ → Judged
-judge frame =
-    given (badFrame frame) (NoFrame BadFrame)
-    (check (known (functionOf frame)) (Fails UnknownSmpFunction)
-    (check (lengthRight frame) (Fails InvalidRequestFrameLength)
-    (Asked (asked frame))))
 
 -- The descriptors of a 93h, 8 bytes each from byte 12 on: "3 source (00h allowed), 4 to 7 threshold".
 abbrev pub descriptorSource : List ℕ → ℕ → ℕ

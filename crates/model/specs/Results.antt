@@ -1,4 +1,4 @@
--- "Function results: a frame is written. In this order, first failure decides."
+-- "Function results: a frame is written". "In this order, first failure decides".
 use Prim.Native.Nat.{ℕ}
 use mathlib.Core.Bool.{Bool}
 use mathlib.Core.List.{List, [], _∷_}
@@ -42,8 +42,8 @@ countRight changes expected = oneOf (0x0000 ∷ changes ∷ []) expected
 unfoldable pub knownOperation : ℕ → Bool
 knownOperation operation = oneOf (0x00 ∷ 0x01 ∷ 0x03 ∷ 0x05 ∷ []) operation
 
--- "10h PHY DOES NOT EXIST (functions with a phy, byte 9)", then "Not reached", with its result, then what is left to judge:
--- whether the phy exists, and whether the source reaches it
+-- From whether the phy exists, and whether the source reaches it: "10h PHY DOES NOT EXIST (functions with a phy, byte 9)", then
+-- "Not reached", with its result, then the rest.
 abbrev pub checkPhy : Bool → Bool → FunctionResult → FunctionResult → FunctionResult
 checkPhy there reached notReached rest =
     check there PhyDoesNotExist

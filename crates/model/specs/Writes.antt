@@ -11,7 +11,7 @@ use Rattle.model.specs.declared.Request.the-variants.{ReportGeneral, Rep
 use Rattle.model.specs.declared.Request.the-variants.{ReportPhyErrorLog, ReportPhyEvent, PhyControl}
 use Rattle.model.specs.declared.Request.the-variants.{ConfigurePhyEvent}
 use Rattle.model.specs.declared.Shelf.{Shelf}
-use Rattle.model.specs.Counting.{originate, withValue, changeOn}
+use Rattle.model.specs.Counting.{originateIf, withValue, changeOn}
 use Rattle.model.specs.Request.{descriptorSource, descriptorThreshold}
 use Rattle.model.specs.Shelf.{monitor, phyWith, phyAt, put}
 use Rattle.model.specs.Sources.{peak}
@@ -64,7 +64,7 @@ anyPeak (m ∷ ms) = peak (m .source) || anyPeak ms
 
 unfoldable pub clearOn : Phy → Phy
 clearOn x =
-    withMonitors x (map clearMonitor (x .monitors)) (cond (anyPeak (x .monitors)) (originate (x .expander2)) (x .expander2))
+    withMonitors x (map clearMonitor (x .monitors)) (originateIf (anyPeak (x .monitors)) (x .expander2))
 
 unfoldable pub configured : List ℕ → ℕ → Bool → Phy → Phy
 configured frame d clear x = cond clear (clearOn (setOn frame d x)) (setOn frame d x)
@@ -74,7 +74,7 @@ configured frame d clear x = cond clear (clearOn (setOn frame d x)) (setOn frame
 abbrev pub control : Shelf → ℕ → ℕ → Shelf
 control s p operation =
     put s p (controlled operation (phyAt s p))
-    (cond (controlChanges operation (phyAt s p)) (originate (s .changes)) (s .changes))
+    (originateIf (controlChanges operation (phyAt s p)) (s .changes))
 
 abbrev pub configure : Shelf → List ℕ → Bool → ℕ → ℕ → Shelf
 configure s frame clear p d = put s p (configured frame d clear (phyAt s p)) (s .changes)

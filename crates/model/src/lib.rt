@@ -1,7 +1,7 @@
 // The model of one leased shelf: its records and enums, in the words of document 01.
 //
-// There is no function here. What the records and enums mean is in specs/, one file to a
-// heading of document 01; what follows from that is in proofs/.
+// There is no function here. What the records and enums mean is in specs/, in the order of document 01
+// (specs/Lib.antt names the files); what follows from that is in proofs/.
 
 // A monitor has an event source, a 32-bit value and a 32-bit threshold.
 pub struct Monitor {
@@ -75,6 +75,7 @@ pub enum Request {
     ReportGeneral,
     ReportManufacturer,
     ReportBroadcast {
+        // the broadcast type; "type" is a word of the language
         kind: u8,
     },
     ReportPhyErrorLog {

@@ -7,7 +7,7 @@ use borrow.Author.Tests.{eq-eqb, ne-eqb}
 use borrow.Rule.Slice.PartMut.{putMid}
 use lib.ListN.{length}
 use lib.Seq.{sets}
-use Rattle.model.proofs.Plain.Reply.{entry}
+use Rattle.model.specs.Reply.{entry}
 use Rattle.replies.proofs.Laid.{laid-over}
 use Rattle.broadcasts.proofs.Listing.{lists-none, listed-one}
 use Rattle.broadcasts.proofs.list.Statement.{statement}

@@ -8,14 +8,14 @@ use mathlib.Core.Path.{_≡_, _∙_}
 use mathlib.Core.List.{List, _++_}
 use lib.ListN.{length, getD}
 use Rattle.model.specs.declared.Phy.{Phy}
-use Rattle.model.specs.Reply.{Broadcast, deviceListed, broadcasts}
+use Rattle.model.specs.Reply.{Broadcast, deviceListed, seenListed, broadcasts}
 use Rattle.model.specs.Shelf.{noPhy}
 use Rattle.model.specs.Tests.{joinBelow}
 use Rattle.model.specs.Zone.{rowReaches}
 use Rattle.model.proofs.Demands.Frames.{AtMost, device-few, phy-few}
 use Rattle.model.proofs.Laws.Join.{join-few}
 use Rattle.model.proofs.Laws.Tests.{cond-both}
-use Rattle.broadcasts.specs.Listed.{seenListed, Lists}
+use Rattle.broadcasts.specs.Listed.{Lists}
 use Rattle.broadcasts.proofs.Listing.{lists-none, lists-append, lists-length}
 use Rattle.broadcasts.proofs.list_all.Statement.{statement}
 use Rattle.broadcasts.proofs.list_all.Tie as tie

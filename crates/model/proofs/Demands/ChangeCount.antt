@@ -1,22 +1,19 @@
 -- "Change also moves the change count the same way", and nothing else does. Assumes nothing.
 use Prim.Native.Nat.{ℕ, _<_}
 use mathlib.Core.Path.{_≡_, refl, ap, _∙_}
-use mathlib.Core.Bool.{Bool, true, false, not, false≢true}
+use mathlib.Core.Bool.{Bool, true, false, false≢true}
 use lib.Dec.{T}
 use lib.ListN.{length, getD}
-use Rattle.model.specs.declared.House.the-variants.{NoSuchPhy}
 use Rattle.model.specs.declared.Phy.{Phy}
 use Rattle.model.specs.declared.Shelf.{Shelf}
-use Rattle.model.specs.declared.Taken.the-variants.{Done, NotDone}
-use Rattle.model.specs.Counting.{originate, changeOn}
-use Rattle.model.specs.Reports.{eventTaken, event, linkChange, reducedFunctionality, sesNotice}
+use Rattle.model.specs.Counting.{originate, originateIf, changeOn}
+use Rattle.model.specs.Reports.{eventTaken, event, linkChangeTaken, linkChange, reducedFunctionality, sesNotice}
 use Rattle.model.specs.Runs.{Operation, Ask, Event, LinkChange, ReducedFunctionality, Ses, QueryReach, next}
 use Rattle.model.specs.Shelf.{noPhy, exists, phyAt, put, outcome}
-use Rattle.model.specs.Tests.{given}
 use Rattle.model.proofs.Laws.Checks.{every-outcome}
-use Rattle.model.proofs.Laws.PhyChanges.{moved, Changes, event-changes, change-changes, configured-changes}
+use Rattle.model.proofs.Laws.PhyChanges.{Changes, event-changes, change-changes, configured-changes}
 use Rattle.model.proofs.Laws.PhyChanges.{controlled-changes}
-use Rattle.model.proofs.Laws.Steps.{Step, Stays, Moves, Notes, KeptBy, next-step}
+use Rattle.model.proofs.Laws.Steps.{Step, Stays, ChangesPhy, CountsNotice, KeptBy, next-step}
 use Rattle.model.proofs.Plain.Shelf.{put-same, put-other}
 
 -- ---- Every operation: the change count and the Change count of one phy that exists are originated together, or neither is; and no
@@ -25,15 +22,15 @@ use Rattle.model.proofs.Plain.Shelf.{put-same, put-other}
 pub record Together (s t : Shelf) : Type 0 where
   pub originates : Bool
   pub phy : ℕ
-  pub count : t .changes ≡ moved originates (s .changes)
+  pub count : t .changes ≡ originateIf originates (s .changes)
   pub there : originates ≡ true → T (exists s phy)
-  pub here : phy < length (s .phys) → phyAt t phy .change0 ≡ moved originates (phyAt s phy .change0)
+  pub here : phy < length (s .phys) → phyAt t phy .change0 ≡ originateIf originates (phyAt s phy .change0)
   pub others : (q : ℕ) → (q ≡ phy → ⊥) → phyAt t q .change0 ≡ phyAt s q .change0
 
 all-change : (operation : Operation) → KeptBy Changes operation
 all-change (Ask g frame out) = (controlled-changes, configured-changes frame)
 all-change (Event p source amount) = event-changes source amount
-all-change (LinkChange p) = change-changes (λ b. b)
+all-change (LinkChange p) = change-changes
 all-change ReducedFunctionality = tt
 all-change Ses = tt
 all-change (QueryReach g) = tt
@@ -53,9 +50,9 @@ still s t phys count =
 
 step-together : (s t : Shelf) → Step Changes s t → Together s t
 step-together s t (Stays e) = still s t (ap (λ u. u .phys) e) (ap (λ u. u .changes) e)
-step-together s t (Moves p f moves placed changes e) =
+step-together s t (ChangesPhy p f moves placed changes e) =
     let x : Phy = phyAt s p in
-    let n : ℕ = moved (moves x) (s .changes) in
+    let n : ℕ = originateIf (moves x) (s .changes) in
     rw e
     (record {
       originates = moves x;
@@ -65,7 +62,7 @@ step-together s t (Moves p f moves placed changes e) =
       here = λ h. ap (λ y. y .change0) (put-same s p (f x) n h) ∙ changes x;
       others = λ q apart. ap (λ y. y .change0) (put-other s p (f x) n q apart);
     })
-step-together s t (Notes a b e) = still s t (ap (λ u. u .phys) e) (ap (λ u. u .changes) e)
+step-together s t (CountsNotice a b e) = still s t (ap (λ u. u .phys) e) (ap (λ u. u .changes) e)
 
 pub next-together : (s : Shelf) (operation : Operation) → Together s (next s operation)
 next-together s operation = step-together s (next s operation) (next-step Changes s operation (all-change operation))
@@ -81,7 +78,7 @@ pub notices-count : (s : Shelf) → (reducedFunctionality s .changes ≡ s .chan
 unfolding reducedFunctionality sesNotice
 notices-count s = (refl, refl)
 
-pub link-change-count : (s : Shelf) (p : ℕ) → linkChange s p .shelf .changes ≡ moved (exists s p) (s .changes)
+pub link-change-count : (s : Shelf) (p : ℕ) → linkChange s p .shelf .changes ≡ originateIf (exists s p) (s .changes)
 unfolding linkChange
 link-change-count s p = go (exists s p)
   where
@@ -89,6 +86,6 @@ link-change-count s p = go (exists s p)
     new = put s p (changeOn (phyAt s p .enabled) (phyAt s p)) (originate (s .changes))
 
     go : (there : Bool)
-        → outcome (given (not there) (NotDone NoSuchPhy) Done) s new .shelf .changes ≡ moved there (s .changes)
+        → outcome (linkChangeTaken there) s new .shelf .changes ≡ originateIf there (s .changes)
     go true = refl
     go false = refl

@@ -4,36 +4,36 @@
 use Prim.Native.Nat.{ℕ, _≤_, _<_}
 use native.Mathlib.Nat.{zero-add}
 use mathlib.Core.Path.{_≡_, refl, sym, _∙_}
-use mathlib.Core.Logic.{_↔_}
+use mathlib.Core.Logic.{_↔_, Iff·rfl}
 use mathlib.Core.Bool.{Bool, true, false, not, cond, _&&_}
 use mathlib.Core.List.{List, [], _∷_, map, List·Memᴰ}
 use borrow.Author.Tests.{ltb-true, ltb-false, lt-ltb, le-ltb, eqb-true, eqb-false, eq-eqb}
 use lib.Dec.{T, ltb, eqb}
-use lib.ListN.{length, getD, replicate, length-set, length-map, List·getD-map}
+use lib.ListN.{length, getD, replicate, length-map, List·getD-map}
 use lib.Seq.{ext-getD, getD-set-same, set-getD}
 use Rattle.model.specs.declared.Monitor.{Monitor}
 use Rattle.model.specs.declared.Phy.{Phy}
 use Rattle.model.specs.declared.Request.the-variants.{PhyControl, ConfigurePhyEvent}
 use Rattle.model.specs.declared.Shelf.{Shelf}
 use Rattle.model.specs.Bytes.{byte}
-use Rattle.model.specs.Counting.{originate, withValue, changeOn}
+use Rattle.model.specs.Counting.{originate, originateIf, withValue, changeOn}
 use Rattle.model.specs.Reply.{monitorAt}
-use Rattle.model.specs.Request.{descriptorSource, descriptorThreshold}
+use Rattle.model.specs.Request.{clears, descriptorSource, descriptorThreshold}
 use Rattle.model.specs.Shelf.{noPhy, phyAt, monitor, phyWith, shelfWith, freshMonitor}
 use Rattle.model.specs.Sources.{peak}
 use Rattle.model.specs.Writes.{controlled, controlChanges, setMonitor, setMonitors, withMonitors, setOn, clearMonitor}
 use Rattle.model.specs.Writes.{anyPeak, clearOn, configured, effect}
-use Rattle.model.specs.Zone.{bit}
 use Rattle.model.proofs.Laws.Tests.{and-iff, not-both-iff, both-iff, cond-iff, eqb-iff, by-each}
+use Rattle.model.proofs.Plain.Results.{knownOperations}
 use Rattle.model.proofs.Plain.Shelf.{OnlyPhy, put-only}
 use Rattle.model.proofs.Plain.Writes.{set-length, set-at, HasPeak, anyPeak-iff}
 
 -- Two shelves that differ from s in phy p and in the change count at most, and agree in these, are one.
 same-shelf : {s t u : Shelf} {p : ℕ} → OnlyPhy s p t → OnlyPhy s p u
-    → length (t .phys) ≡ length (s .phys) → length (u .phys) ≡ length (s .phys)
     → phyAt t p ≡ phyAt u p → t .changes ≡ u .changes → t ≡ u
-same-shelf {s} {t} {u} {p} a b m n same count =
-    let phys : t .phys ≡ u .phys = ext-getD noPhy (t .phys) (u .phys) (m ∙ sym n) (λ q h. at q (eqb q p) refl) in
+same-shelf {s} {t} {u} {p} a b same count =
+    let phys : t .phys ≡ u .phys =
+    ext-getD noPhy (t .phys) (u .phys) (a .size ∙ sym (b .size)) (λ q h. at q (eqb q p) refl) in
     let whole : (r : Shelf) → r ≡ shelfWith r (r .phys) (r .changes) (r .expander3) (r .ses0) = λ r. refl in
     cc (whole t, whole u)
   where
@@ -43,7 +43,7 @@ same-shelf {s} {t} {u} {p} a b m n same count =
 
 -- ---- 91h
 
--- What a phy is afterwards is written out here, and not by the definitions of `Counting` and `Writes`, which it is to check.
+-- What a phy is afterwards is written out here, and not by `changeOn` and `withoutErrors`, which it is to check.
 
 -- phy p is x, and the change count is n
 abbrev pub Has : Shelf → ℕ → Phy → ℕ → Type 0
@@ -63,7 +63,6 @@ errorless x = phyWith x (x .enabled) (replicate 4 0) (x .monitors) (x .change0) 
 -- nor any number under FFh, is another.
 pub record Controlled (s : Shelf) (p operation : ℕ) (t : Shelf) : Type 0 where
   pub only : OnlyPhy s p t
-  pub size : length (t .phys) ≡ length (s .phys)
   pub none : operation ≡ 0x00 → t ≡ s
   pub link-reset : operation ≡ 0x01 → Has t p (changeOriginated (phyAt s p) true) (originate (s .changes))
   pub disable : operation ≡ 0x03 → phyAt s p .enabled ≡ true
@@ -78,7 +77,6 @@ unfolding effect controlled controlChanges changeOn
 controlled-effect s frame expected p operation h =
     record {
       only = put-only s p _ _;
-      size = length-set (s .phys) p _;
       none = λ e. rw (e, set-getD);
       link-reset = λ e. rw e (getD-set-same (s .phys) p _ noPhy h, refl);
       disable = λ e on. rw (e, on) (getD-set-same (s .phys) p _ noPhy h, refl);
@@ -87,17 +85,17 @@ controlled-effect s frame expected p operation h =
     }
 
 -- no two shelves are left by one of the four operations
-pub controlled-settled : {s t u : Shelf} {p operation : ℕ} → List·Memᴰ operation (0x00 ∷ 0x01 ∷ 0x03 ∷ 0x05 ∷ [])
+pub controlled-settled : {s t u : Shelf} {p operation : ℕ} → List·Memᴰ operation knownOperations
     → Controlled s p operation t → Controlled s p operation u → t ≡ u
 controlled-settled {s} {t} {u} {p} {operation} known a b =
-    by-each (t ≡ u) operation (0x00 ∷ 0x01 ∷ 0x03 ∷ 0x05 ∷ []) known
+    by-each (t ≡ u) operation knownOperations known
     (λ e. a .none e ∙ sym (b .none e))
     (λ e. alike (a .link-reset e) (b .link-reset e))
     (λ e. disabled e (phyAt s p .enabled) refl)
     (λ e. alike (a .clear-errors e) (b .clear-errors e))
   where
     alike : {x : Phy} {n : ℕ} → Has t p x n → Has u p x n → t ≡ u
-    alike l r = same-shelf (a .only) (b .only) (a .size) (b .size) (cc) (cc)
+    alike l r = same-shelf (a .only) (b .only) (cc) (cc)
 
     disabled : operation ≡ 0x03 → (on : Bool) → phyAt s p .enabled ≡ on → t ≡ u
     disabled e true on = alike (a .disable e on) (b .disable e on)
@@ -105,12 +103,8 @@ controlled-settled {s} {t} {u} {p} {operation} known a b =
 
 -- ---- 93h
 
--- "bit 0 of byte 6 clears peaks"
-abbrev pub clears : List ℕ → Bool
-clears frame = bit (byte frame 6) 0
-
 -- "Descriptor i sets monitor i; a changed source sets the value to 0, the same source keeps it. Then, if clearing, each of the
--- phy's monitors on a peak source goes to 0." The number of descriptors is in byte 11.
+-- phy's monitors on a peak source goes to 0". The number of descriptors is in byte 11.
 pub record MonitorConfigured (frame : List ℕ) (i : ℕ) (old new : Monitor) : Type 0 where
   pub named-source : i < byte frame 11 → new .source ≡ descriptorSource frame i
   pub named-threshold : i < byte frame 11 → new .threshold ≡ descriptorThreshold frame i
@@ -124,7 +118,6 @@ pub record MonitorConfigured (frame : List ℕ) (i : ℕ) (old new : Monitor) : 
 -- Expander 2h is another; of the rest of the shelf nothing, the change count among it.
 pub record Configured (s : Shelf) (p : ℕ) (frame : List ℕ) (t : Shelf) : Type 0 where
   pub only : OnlyPhy s p t
-  pub size : length (t .phys) ≡ length (s .phys)
   pub changes : t .changes ≡ s .changes
   pub rest : let x : Phy = phyAt s p in
       phyAt t p
@@ -207,6 +200,7 @@ module _ (frame : List ℕ) where
   configured-after {i} {m} {new} c =
       let (source, threshold) = named (ltb i (byte frame 11)) refl in
       let value : new .value ≡ cond (keeps (m .source) (new .source)) (m .value) 0 = valued _ _ refl refl in
+      -- an equation of monitors, from those of their fields
       rw (← source) (λ k. monitor (new .source) (value k) (threshold k))
     where
       named : (b : Bool) → ltb i (byte frame 11) ≡ b
@@ -226,7 +220,7 @@ module _ (frame : List ℕ) where
 
 -- the clear finds one
 finds-iff : (frame : List ℕ) (ms : List Monitor) → T (clears frame && anyPeak ms) ↔ (T (clears frame) × HasPeak ms)
-finds-iff frame ms = both-iff (clears frame) (anyPeak ms) (λ t. t, λ t. t) (anyPeak-iff ms)
+finds-iff frame ms = both-iff (clears frame) (anyPeak ms) Iff·rfl (anyPeak-iff ms)
 
 -- the clear
 abbrev clearedIf : Bool → List Monitor → List Monitor
@@ -265,14 +259,14 @@ module _ (frame : List ℕ) (x : Phy) where
 
   configured-is : configured frame (byte frame 11) (clears frame) x
       ≡ withMonitors x monitorsAfter
-      (cond (clears frame && anyPeak monitorsAfter) (originate (x .expander2)) (x .expander2))
+      (originateIf (clears frame && anyPeak monitorsAfter) (x .expander2))
   unfolding configured setOn clearOn
   configured-is = go (clears frame)
     where
       go : (clear : Bool)
           → cond clear (clearOn (setOn frame (byte frame 11) x)) (setOn frame (byte frame 11) x)
           ≡ withMonitors x (clearedIf clear monitorsSet)
-          (cond (clear && anyPeak (clearedIf clear monitorsSet)) (originate (x .expander2)) (x .expander2))
+          (originateIf (clear && anyPeak (clearedIf clear monitorsSet)) (x .expander2))
       go true = rw cleared-peaks
       go false = refl
 
@@ -294,7 +288,6 @@ configured-effect s frame expected p h =
     let (finding, missing) = cond-iff (clears frame && anyPeak ms) _ (originate (x .expander2)) (x .expander2) .0 refl in
     record {
       only = put-only s p _ _;
-      size = length-set (s .phys) p _;
       changes = refl;
       rest = rw new;
       number = rw new (number-after frame x);
@@ -311,7 +304,7 @@ configured-effect s frame expected p h =
 -- no two shelves are left by one 93h: its monitors are settled one by one, and they settle Expander 2h
 expander2-is : {s t : Shelf} {p : ℕ} {frame : List ℕ} → Configured s p frame t
     → phyAt t p .expander2
-    ≡ cond (clears frame && anyPeak (phyAt t p .monitors)) (originate (phyAt s p .expander2)) (phyAt s p .expander2)
+    ≡ originateIf (clears frame && anyPeak (phyAt t p .monitors)) (phyAt s p .expander2)
 expander2-is {s} {t} {p} {frame} c =
     let finds = finds-iff frame (phyAt t p .monitors) in
     cond-iff (clears frame && anyPeak (phyAt t p .monitors)) _ (originate (phyAt s p .expander2)) (phyAt s p .expander2) .1 (
@@ -329,4 +322,4 @@ configured-settled {s} {t} {u} {p} {frame} a b =
     (λ i h.
     let l : i < length (phyAt s p .monitors) = rw (a .number) at h in
     configured-after frame (a .each i l) ∙ sym (configured-after frame (b .each i l))) in
-    same-shelf (a .only) (b .only) (a .size) (b .size) (cc (a .rest, b .rest, expander2-is a, expander2-is b)) (cc)
+    same-shelf (a .only) (b .only) (cc (a .rest, b .rest, expander2-is a, expander2-is b)) (cc)

@@ -1,4 +1,4 @@
--- Every response, accepted or failed, has 4 bytes and 4 for each dword that byte 3 says, at most 1,028 in all, and every byte is below 256
+-- Every response, accepted or failed, has 4 bytes and 4 for each dword that byte 3 says, at most 400 in all, and every byte is below 256
 -- where the frame's bytes are and the shelf's numbers fit their widths. Assumes nothing.
 use Prim.Native.Nat.{ℕ, _+_, _*_, _≤_, _<_, zero-le}
 use native.Mathlib.Nat.{le-refl}
@@ -34,16 +34,17 @@ use Rattle.model.proofs.Laws.Handled.{verdict, sent-all, accepted-decid
 use Rattle.model.proofs.Laws.Join.{join-few}
 use Rattle.model.proofs.Laws.Places.{All, all-each, each-all, cut-each, sets-each, sets-before, replicate-each}
 use Rattle.model.proofs.Laws.Tests.{cond-both}
-use Rattle.model.proofs.Plain.Reply.{broadcast-bytes-length, listed-iff, kept-small}
+use Rattle.model.proofs.Plain.Reply.{broadcast-bytes-length, ofPhy, listed-iff, kept-small}
 use Rattle.model.proofs.Plain.Request.{by-function}
 
--- "Response byte 0 is 41h, byte 1 the function, byte 2 the result, byte 3 the number of dwords that follow."
+-- "Response byte 0 is 41h, byte 1 the function, byte 2 the result, byte 3 the number of dwords that follow." The longest is a 06h, of 8 bytes
+-- and 49 descriptors of 8; 1,028 are lent.
 pub record Framed (function result : ℕ) (bytes : List ℕ) : Type 0 where
   pub byte-0 : byte bytes 0 ≡ 0x41
   pub byte-1 : byte bytes 1 ≡ function
   pub byte-2 : byte bytes 2 ≡ result
   pub byte-3 : length bytes ≡ 4 + 4 * byte bytes 3
-  pub longest : length bytes ≤ 1028
+  pub longest : length bytes ≤ 400
 
 -- the function that a request asks for
 abbrev pub requestFunction : Request → ℕ
@@ -81,21 +82,16 @@ phy-few kind p x =
 pub broadcasts-few : (s : Shelf) (g kind : ℕ) → length (broadcasts s g kind) ≤ 49
 unfolding broadcasts
 broadcasts-few s g kind =
-    let of : ℕ → List Broadcast = λ p. cond (reaches s g p) (phyListed kind p (phyAt s p)) [] in
-    let few : (p : ℕ) → AtMost 2 (of p) =
+    let few : (p : ℕ) → AtMost 2 (ofPhy s g kind p) =
     λ p. cond-both (AtMost 2) (reaches s g p) _ _ (phy-few kind p (phyAt s p)) zero-le in
-    simp length-append (omega (arith, device-few kind (s .expander3) (s .ses0), join-few (phyNumber s) 2 of few))
+    simp length-append (omega (arith, device-few kind (s .expander3) (s .ses0), join-few (phyNumber s) 2 (ofPhy s g kind) few))
 
 -- ---- the head and the length
 
--- Framed, and of at most 400 bytes: the longest is a 06h, of 8 bytes and 49 descriptors of 8.
-abbrev Short : ℕ → ℕ → List ℕ → Type 0
-Short function result bytes = Framed function result bytes × (length bytes ≤ 400)
-
 -- bytes written from byte 4 or a later one on leave it so
-sets-short : (function result : ℕ) (bytes values : List ℕ) (place : ℕ) → 4 ≤ place → Short function result bytes
-    → Short function result (sets bytes place values)
-sets-short function result bytes values place past short =
+sets-framed : (function result : ℕ) (bytes values : List ℕ) (place : ℕ) → 4 ≤ place → Framed function result bytes
+    → Framed function result (sets bytes place values)
+sets-framed function result bytes values place past framed =
     let stays : (i : ℕ) → i < 4 → byte (sets bytes place values) i ≡ byte bytes i =
     λ i below. sets-before values bytes place i 0x00 (omega arith) in
     omega (
@@ -107,54 +103,42 @@ sets-short function result bytes values place past short =
       stays 3 (omega arith),
     )
 
-accepted-short : (s : Shelf) (g : ℕ) (request : Request) → Short (requestFunction request) 0x00 (respond s g request)
-unfolding respond reportGeneral reportManufacturer reportBroadcast reportPhyErrorLog reportPhyEvent
-accepted-short s g ReportGeneral = sets-short 0x00 0x00 _ (s .identifier) 12 (omega arith) (omega arith)
-accepted-short s g ReportManufacturer = omega arith
-accepted-short s g (ReportBroadcast kind) =
-    omega (arith, broadcasts-few s g kind, broadcast-bytes-length (broadcasts s g kind))
-accepted-short s g (ReportPhyErrorLog p) = omega arith
-accepted-short s g (ReportPhyEvent p) = omega arith
-accepted-short s g (PhyControl expected p operation) = omega arith
-accepted-short s g (ConfigurePhyEvent expected clear p d) = omega arith
-
 -- every accepted response, of any shelf
 pub respond-framed : (s : Shelf) (g : ℕ) (request : Request)
     → Framed (requestFunction request) 0x00 (respond s g request)
-respond-framed s g request = accepted-short s g request .0
+unfolding respond reportGeneral reportManufacturer reportBroadcast reportPhyErrorLog reportPhyEvent
+respond-framed s g ReportGeneral = sets-framed 0x00 0x00 _ (s .identifier) 12 (omega arith) (omega arith)
+respond-framed s g ReportManufacturer = omega arith
+respond-framed s g (ReportBroadcast kind) =
+    omega (arith, broadcasts-few s g kind, broadcast-bytes-length (broadcasts s g kind))
+respond-framed s g (ReportPhyErrorLog p) = omega arith
+respond-framed s g (ReportPhyEvent p) = omega arith
+respond-framed s g (PhyControl expected p operation) = omega arith
+respond-framed s g (ConfigurePhyEvent expected clear p d) = omega arith
 
 -- a frame of a known function asks for that function
-pub asked-function : (frame : List ℕ) → T (known (functionOf frame)) → requestFunction (asked frame) ≡ functionOf frame
+asked-function : (frame : List ℕ) → T (known (functionOf frame)) → requestFunction (asked frame) ≡ functionOf frame
 asked-function frame t =
     by-function frame (λ function request. requestFunction request ≡ function) t refl refl refl refl refl refl refl
-
-sent-short : (s : Shelf) (g : ℕ) (frame : List ℕ) (room : ℕ) (bytes : List ℕ)
-    → handle s g frame room .reply ≡ Sends bytes → Short (functionOf frame) (resultCode (verdict s g frame)) bytes
-sent-short s g frame room =
-    sent-all (Short (functionOf frame) (resultCode (verdict s g frame))) s g frame room (omega arith)
-    (λ e.
-    rw (eqb-true (resultCode (verdict s g frame)) 0x00 e)
-    (subst (λ (f : ℕ). Short f 0x00 (respond s g (asked frame)))
-    (asked-function frame (rw (accepted-decided s g frame e .0) tt))
-    (accepted-short s g (asked frame))))
 
 -- Every response. `handle .. .reply` is the bytes that `lentAfter` puts at the front of the lent buffer, and whose number `served` tells.
 -- A failed one too: "A failed response is 41h, the function, the result, 00h."
 pub response-framed : (s : Shelf) (g : ℕ) (frame : List ℕ) (room : ℕ) (bytes : List ℕ)
     → handle s g frame room .reply ≡ Sends bytes → Framed (functionOf frame) (resultCode (verdict s g frame)) bytes
-response-framed s g frame room bytes e = sent-short s g frame room bytes e .0
-
--- in fact 400 bytes are enough
-pub response-short : (s : Shelf) (g : ℕ) (frame : List ℕ) (room : ℕ) (bytes : List ℕ)
-    → handle s g frame room .reply ≡ Sends bytes → length bytes ≤ 400
-response-short s g frame room bytes e = sent-short s g frame room bytes e .1
+response-framed s g frame room =
+    sent-all (Framed (functionOf frame) (resultCode (verdict s g frame))) s g frame room (omega arith)
+    (λ e.
+    rw (eqb-true (resultCode (verdict s g frame)) 0x00 e)
+    (subst (λ (f : ℕ). Framed f 0x00 (respond s g (asked frame)))
+    (asked-function frame (rw (accepted-decided s g frame e .0) tt))
+    (respond-framed s g (asked frame))))
 
 -- ---- every byte fits
 
 abbrev Small : ℕ → Type 0
 Small n = n ≤ 0xFF
 
--- byte by byte, in two parts
+-- byte by byte, in two parts: `omega` goes into a goal no more than 32 parts deep
 fits-by : (bytes : List ℕ) → All Small (take 32 bytes) → All Small (drop 32 bytes) → BytesFit bytes
 fits-by bytes front back = cut-each Small 0x00 32 bytes front (all-each Small 0x00 (drop 32 bytes) zero-le back)
 

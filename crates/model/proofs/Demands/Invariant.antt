@@ -14,7 +14,7 @@ use Rattle.model.specs.declared.Phy.{Phy}
 use Rattle.model.specs.declared.Shelf.{Shelf}
 use Rattle.model.specs.declared.Taken.the-variants.{Done}
 use Rattle.model.specs.Bytes.{byte, dword}
-use Rattle.model.specs.Counting.{addSaturating, counted, crosses, originateCrossings, addError, eventOn}
+use Rattle.model.specs.Counting.{originateIf, addSaturating, counted, crosses, originateCrossings, addError, eventOn}
 use Rattle.model.specs.Counting.{changeOn}
 use Rattle.model.specs.Reach.{reaches}
 use Rattle.model.specs.Reply.{errorAt, monitorAt}
@@ -26,7 +26,6 @@ use Rattle.model.specs.Writes.{withoutErrors, controlled, setMonitor, se
 use Rattle.model.specs.Writes.{clearOn, configured}
 use Rattle.model.specs.Zone.{row}
 use Rattle.model.proofs.Laws.Join.{join-length}
-use Rattle.model.proofs.Laws.PhyChanges.{moved}
 use Rattle.model.proofs.Laws.Places.{All, Each, change-at, map-at, replicate-each}
 use Rattle.model.proofs.Laws.Steps.{Step, KeptBy, next-step, step-fixed, step-phys, Counts, step-counts}
 use Rattle.model.proofs.Laws.Tests.{cond-by, cond-both}
@@ -100,18 +99,18 @@ OperationFits (QueryReach g) = Unit {0}
 
 -- ---- counts
 
-moved-fits : (b : Bool) (count : ℕ) → count ≤ 0xFFFF → moved b count ≤ 0xFFFF
-moved-fits b count h = cond-both (λ n. n ≤ 0xFFFF) b _ _ (originate-range count h .1) h
+originated-fits : (b : Bool) (count : ℕ) → count ≤ 0xFFFF → originateIf b count ≤ 0xFFFF
+originated-fits b count h = cond-both (λ n. n ≤ 0xFFFF) b _ _ (originate-range count h .1) h
 
-moved-present : (b : Bool) (count : ℕ) → count ≤ 0xFFFF → 1 ≤ count → 1 ≤ moved b count
-moved-present b count h some = cond-both (λ n. 1 ≤ n) b _ _ (originate-range count h .0) some
+originated-present : (b : Bool) (count : ℕ) → count ≤ 0xFFFF → 1 ≤ count → 1 ≤ originateIf b count
+originated-present b count h some = cond-both (λ n. 1 ≤ n) b _ _ (originate-range count h .0) some
 
 crossings-fit : (source amount : ℕ) (ms : List Monitor) (count : ℕ) → count ≤ 0xFFFF
     → originateCrossings source amount ms count ≤ 0xFFFF
 unfolding originateCrossings
 crossings-fit source amount [] count h = h
 crossings-fit source amount (m ∷ ms) count h =
-    crossings-fit source amount ms _ (moved-fits (crosses m (counted source amount m .value)) count h)
+    crossings-fit source amount ms _ (originated-fits (crosses m (counted source amount m .value)) count h)
 
 -- ---- the four error counts
 
@@ -231,7 +230,7 @@ event-keeps source amount h x =
 change-keeps : (enabled : Bool) (x : Phy) → FitsOn x (changeOn enabled x)
 unfolding changeOn
 change-keeps enabled x =
-    fits-with x (λ f. f) (λ f. f) (moved-fits true (x .change0)) (λ f. f) (λ f. f)
+    fits-with x (λ f. f) (λ f. f) (originated-fits true (x .change0)) (λ f. f) (λ f. f)
 
 without-errors-keeps : (x : Phy) → FitsOn x (withoutErrors x)
 without-errors-keeps x = fits-with x (λ f. no-errors-fit) (λ f. f) (λ f. f) (λ f. f) (λ f. f)
@@ -253,7 +252,7 @@ clear-keeps : (x : Phy) → FitsOn x (clearOn x)
 unfolding clearOn
 clear-keeps x =
     fits-with x (λ f. f) (map-fits clearMonitor clear-fits (x .monitors)) (λ f. f) (λ f. f)
-    (moved-fits (anyPeak (x .monitors)) (x .expander2))
+    (originated-fits (anyPeak (x .monitors)) (x .expander2))
 
 configure-keeps : (frame : List ℕ) → BytesFit frame → (d : ℕ) (clear : Bool) (x : Phy)
     → FitsOn x (configured frame d clear x)
@@ -276,8 +275,8 @@ fit-kept ReducedFunctionality fit = tt
 fit-kept Ses fit = tt
 fit-kept (QueryReach g) fit = tt
 
-moved-fits′ : (before after : ℕ) → (b : Bool) × (after ≡ moved b before) → before ≤ 0xFFFF → after ≤ 0xFFFF
-moved-fits′ before after (b, e) h = rw e (moved-fits b before h)
+count-fits : (before after : ℕ) → (b : Bool) × (after ≡ originateIf b before) → before ≤ 0xFFFF → after ≤ 0xFFFF
+count-fits before after (b, e) h = rw e (originated-fits b before h)
 
 module _ (s t : Shelf) (step : Step KeepsFit s t) where
   phys-fit-on : (p : ℕ) → FitsOn (phyAt s p) (phyAt t p)
@@ -295,15 +294,15 @@ module _ (s t : Shelf) (step : Step KeepsFit s t) where
         table = rw (fixed .table) (f .table);
         identifier-size = rw (fixed .identifier) (f .identifier-size);
         identifier = rw (fixed .identifier) (f .identifier);
-        changes = moved-fits′ (s .changes) (t .changes) (counts .changes) (f .changes);
-        expander3 = moved-fits′ (s .expander3) (t .expander3) (counts .expander3) (f .expander3);
-        ses0 = moved-fits′ (s .ses0) (t .ses0) (counts .ses0) (f .ses0);
+        changes = count-fits (s .changes) (t .changes) (counts .changes) (f .changes);
+        expander3 = count-fits (s .expander3) (t .expander3) (counts .expander3) (f .expander3);
+        ses0 = count-fits (s .ses0) (t .ses0) (counts .ses0) (f .ses0);
       }
 
   step-present : Fits s → 1 ≤ s .changes → 1 ≤ t .changes
   step-present f some =
       let (b, e) = step-counts KeepsFit s t step .changes in
-      rw e (moved-present b (s .changes) (f .changes) some)
+      rw e (originated-present b (s .changes) (f .changes) some)
 
 pub next-fits : (s : Shelf) (o : Operation) → OperationFits o → Fits s → Fits (next s o)
 next-fits s o fit = step-fits s (next s o) (next-step KeepsFit s o (fit-kept o fit))

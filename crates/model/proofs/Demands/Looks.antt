@@ -1,18 +1,19 @@
 -- What a shelf looks like to a source group. Assumes nothing.
-use Prim.Native.Nat.{ℕ, zero, suc}
+use Prim.Native.Nat.{ℕ}
 use mathlib.Core.Path.{_≡_, refl, sym, ap, ap₂, fun-ext, _∙_}
 use mathlib.Core.Logic.{_↔_}
 use mathlib.Core.Bool.{Bool, true, false, cond}
-use mathlib.Core.List.{List, [], _∷_, map, map-map}
+use mathlib.Core.List.{map, map-map}
 use lib.Dec.{T}
-use lib.ListN.{length, getD, set, length-map, List·getD-map}
+use lib.ListN.{length, getD, length-map, List·getD-map}
 use lib.Seq.{set-getD, ext-getD}
 use Rattle.model.specs.declared.Phy.{Phy}
 use Rattle.model.specs.declared.Shelf.{Shelf}
 use Rattle.model.specs.Reach.{reaches}
-use Rattle.model.specs.Shelf.{noPhy, phyAt, shelfWith, put}
+use Rattle.model.specs.Shelf.{freshPhy, noPhy, phyAt, phyWith, shelfWith, put}
 use Rattle.model.specs.Zone.{row, rowReaches}
 use Rattle.model.proofs.Laws.PhyChanges.{Inner}
+use Rattle.model.proofs.Laws.Places.{map-set}
 use Rattle.model.proofs.Laws.Tests.{is-true}
 
 -- A phy as a row sees it: whole where the row reaches it. Where it does not, its numbers are not seen, and 0 stands for each;
@@ -20,15 +21,12 @@ use Rattle.model.proofs.Laws.Tests.{is-true}
 -- enabled.
 abbrev pub seen : ℕ → Phy → Phy
 seen r x =
-    record {
-      group = x .group;
-      enabled = x .enabled;
-      errors = cond (rowReaches r (x .group)) (x .errors) (noPhy .errors);
-      monitors = cond (rowReaches r (x .group)) (x .monitors) (noPhy .monitors);
-      change0 = cond (rowReaches r (x .group)) (x .change0) 0;
-      expander1 = cond (rowReaches r (x .group)) (x .expander1) 0;
-      expander2 = cond (rowReaches r (x .group)) (x .expander2) 0;
-    }
+    phyWith x (x .enabled)
+    (cond (rowReaches r (x .group)) (x .errors) (noPhy .errors))
+    (cond (rowReaches r (x .group)) (x .monitors) (noPhy .monitors))
+    (cond (rowReaches r (x .group)) (x .change0) 0)
+    (cond (rowReaches r (x .group)) (x .expander1) 0)
+    (cond (rowReaches r (x .group)) (x .expander2) 0)
 
 -- the shelf as group g sees it
 abbrev pub looks : ℕ → Shelf → Shelf
@@ -38,42 +36,31 @@ looks g s = shelfWith s (map (seen (row (s .table) g)) (s .phys)) (s .changes) (
 
 -- what is left of a phy that is out of reach
 abbrev hidden : ℕ → Bool → Phy
-hidden group enabled =
-    record {
-      group = group;
-      enabled = enabled;
-      errors = noPhy .errors;
-      monitors = noPhy .monitors;
-      change0 = 0;
-      expander1 = 0;
-      expander2 = 0;
-    }
+hidden group enabled = phyWith (freshPhy group) enabled (noPhy .errors) (noPhy .monitors) 0 0 0
 
 module _ (r : ℕ) where
-  pub seen-reached : (x : Phy) → rowReaches r (x .group) ≡ true → seen r x ≡ x
+  seen-reached : (x : Phy) → rowReaches r (x .group) ≡ true → seen r x ≡ x
   seen-reached x e = rw e
 
   seen-hidden : (x : Phy) → rowReaches r (x .group) ≡ false → seen r x ≡ hidden (x .group) (x .enabled)
   seen-hidden x e = rw e
 
-  pub seen-none : seen r noPhy ≡ noPhy
+  seen-none : seen r noPhy ≡ noPhy
   seen-none = go (rowReaches r 0)
     where
       go : (b : Bool)
-          → record {
-            group = 0;
-            enabled = true;
-            errors = cond b (noPhy .errors) (noPhy .errors);
-            monitors = cond b (noPhy .monitors) (noPhy .monitors);
-            change0 = cond b 0 0;
-            expander1 = cond b 0 0;
-            expander2 = cond b 0 0;
-          } ≡ noPhy
+          → phyWith noPhy true
+          (cond b (noPhy .errors) (noPhy .errors))
+          (cond b (noPhy .monitors) (noPhy .monitors))
+          (cond b 0 0)
+          (cond b 0 0)
+          (cond b 0 0)
+          ≡ noPhy
       go true = refl
       go false = refl
 
   -- how a change looks that keeps the group, and makes enabled or not by that alone, depends on how the phy looked
-  pub seen-change : (f : Phy → Phy) (enables : Bool → Bool) → Inner f enables → (x : Phy)
+  seen-change : (f : Phy → Phy) (enables : Bool → Bool) → Inner f enables → (x : Phy)
       → seen r (f (seen r x)) ≡ seen r (f x)
   seen-change f enables inner x = go (rowReaches r (x .group)) refl
     where
@@ -89,7 +76,7 @@ module _ (r : ℕ) where
       go false e = unseen (seen r x) refl refl e ∙ sym (unseen x refl refl e)
 
   -- and such a change that leaves it enabled or not as it was is not seen out of reach
-  pub seen-stays : (f : Phy → Phy) → Inner f (λ b. b) → (x : Phy) → rowReaches r (x .group) ≡ false
+  seen-stays : (f : Phy → Phy) → Inner f (λ b. b) → (x : Phy) → rowReaches r (x .group) ≡ false
       → seen r (f x) ≡ seen r x
   seen-stays f inner x out =
       seen-hidden (f x) (ap (rowReaches r) (inner .group x) ∙ out)
@@ -98,13 +85,8 @@ module _ (r : ℕ) where
 
 -- ---- the shelf
 
-map-set : {A B : Type 0} (f : A → B) (l : List A) (i : ℕ) (a : A) → map f (set l i a) ≡ set (map f l) i (f a)
-map-set f [] i a = refl
-map-set f (x ∷ l) zero a = refl
-map-set f (x ∷ l) (suc i) a = ap (λ t. f x ∷ t) (map-set f l i a)
-
 module _ (g : ℕ) (s : Shelf) where
-  pub looks-phy : (p : ℕ) → phyAt (looks g s) p ≡ seen (row (s .table) g) (phyAt s p)
+  looks-phy : (p : ℕ) → phyAt (looks g s) p ≡ seen (row (s .table) g) (phyAt s p)
   looks-phy p =
       ap (λ d. getD (map (seen (row (s .table) g)) (s .phys)) p d) (sym (seen-none (row (s .table) g)))
       ∙ List·getD-map (seen (row (s .table) g)) (s .phys) p noPhy

@@ -1,5 +1,5 @@
 -- Two things that a reader of demand 3 will ask, answered on shelf W, where group 8 reaches phys 0, 1 and 3, and group 9 phys 2 and 3:
--- that "looks the same to g" is no empty talk, and why link resets, disables and link changes must stay. Assumes nothing.
+-- that looking the same to a group is no empty talk, and why link resets, disables and link changes must stay. Assumes nothing.
 use Prim.Native.Nat.{ℕ}
 use native.Mathlib.Omega.{arith}
 use mathlib.Core.Path.{_≡_, refl, ap}
@@ -13,7 +13,7 @@ use Rattle.model.specs.Reply.{monitorAt}
 use Rattle.model.specs.Runs.{Operation, LinkChange, Told, Answered, Shown, answers}
 use Rattle.model.specs.Shelf.{monitor, phyAt, put}
 use Rattle.model.specs.ShelfW.{shelfW}
-use Rattle.model.specs.Vectors.Tools.{control}
+use Rattle.model.specs.Vectors.Tools.{controlFrame}
 use Rattle.model.specs.Writes.{withMonitors}
 use Rattle.model.proofs.Computes.{computes}
 use Rattle.model.proofs.Demands.Looks.{looks}
@@ -69,11 +69,11 @@ Tells first = (countTold (answers 8 shelfW (first ∷ asks)) ≡ 0x0002) × (cou
 pub tells-apart : (first : Operation) → Tells first → answers 8 shelfW (first ∷ asks) ≡ answers 8 shelfW asks → ⊥
 tells-apart first tells e = omega (arith, ap countTold e)
 
-pub link-reset-tells : Tells (sent 9 (control 0x09 0x00 2 0x01))
+pub link-reset-tells : Tells (sent 9 (controlFrame 0x09 0x00 2 0x01))
 unfolding computes
 link-reset-tells = (refl, refl)
 
-pub disable-tells : Tells (sent 9 (control 0x09 0x00 2 0x03))
+pub disable-tells : Tells (sent 9 (controlFrame 0x09 0x00 2 0x03))
 unfolding computes
 disable-tells = (refl, refl)
 

@@ -2,35 +2,34 @@
 -- alone. Assumes nothing.
 use Prim.Native.Nat.{ℕ}
 use mathlib.Core.Path.{_≡_, refl, ap, fun-ext}
-use mathlib.Core.Bool.{Bool, true, false, not, cond}
+use mathlib.Core.Bool.{Bool, true, false, cond}
 use mathlib.Core.List.{List, [], _∷_, _++_}
 use borrow.Author.Tests.{eqb-true}
 use lib.Dec.{eqb}
 use lib.ListN.{length}
-use Rattle.model.specs.declared.House.the-variants.{NoSuchPhy}
 use Rattle.model.specs.declared.Request.{Request}
 use Rattle.model.specs.declared.Request.the-variants.{ReportGeneral, ReportManufacturer, ReportBroadcast}
 use Rattle.model.specs.declared.Request.the-variants.{ReportPhyErrorLog, ReportPhyEvent, PhyControl, ConfigurePhyEvent}
 use Rattle.model.specs.declared.Shelf.{Shelf}
 use Rattle.model.specs.declared.Taken.{Taken}
-use Rattle.model.specs.declared.Taken.the-variants.{Done, NotDone}
-use Rattle.model.specs.Counting.{originate, eventOn, changeOn}
+use Rattle.model.specs.Counting.{originate, originateIf, eventOn, changeOn}
 use Rattle.model.specs.Reach.{reaches, reachSet, reachNumber, reachQuery}
 use Rattle.model.specs.Reply.{deviceListed, phyListed, broadcasts, broadcastFrame, reportGeneral, reportManufacturer}
 use Rattle.model.specs.Reply.{reportBroadcast, reportPhyErrorLog, reportPhyEvent, respond}
-use Rattle.model.specs.Reports.{eventTaken, event, linkChange, reducedFunctionality, sesNotice}
+use Rattle.model.specs.Reports.{eventTaken, event, linkChangeTaken, linkChange, reducedFunctionality, sesNotice}
 use Rattle.model.specs.Request.{asked}
-use Rattle.model.specs.Results.{accepted, decide}
+use Rattle.model.specs.Results.{accepted, resultOf, decide}
 use Rattle.model.specs.Runs.{Operation, Ask, Event, LinkChange, ReducedFunctionality, Ses, QueryReach, next, told}
 use Rattle.model.specs.Runs.{Told, Answered, Shown}
 use Rattle.model.specs.Server.{Handled, Sends, handle, lent, answer, served, lentAfter}
 use Rattle.model.specs.Shelf.{phyNumber, exists, phyAt, shelfWith, outcome}
-use Rattle.model.specs.Tests.{given, joinBelow}
+use Rattle.model.specs.Tests.{joinBelow}
 use Rattle.model.specs.Writes.{controlled, controlChanges, configured, effect}
 use Rattle.model.proofs.Demands.Looks.{looks, looks-reaches, looks-reached, looks-twice, looks-change}
-use Rattle.model.proofs.Laws.Checks.{both-outcomes, passed-11, passed-14}
+use Rattle.model.proofs.Laws.Checks.{both-outcomes, read-passed}
 use Rattle.model.proofs.Laws.Handled.{verdict, both-handled, both-concluded, accepted-decided}
 use Rattle.model.proofs.Laws.PhyChanges.{enablesBy, event-inner, change-inner, configured-inner, controlled-inner}
+use Rattle.model.proofs.Plain.Reply.{ofPhy}
 
 -- ---- judging
 
@@ -56,7 +55,7 @@ module _ (g : ℕ) (s : Shelf) where
   looks-effect frame (ReportPhyEvent p) = looks-twice g s
   looks-effect frame (PhyControl expected p operation) =
       looks-change g s p (controlled operation) (enablesBy operation)
-      (λ x. cond (controlChanges operation x) (originate (s .changes)) (s .changes))
+      (λ x. originateIf (controlChanges operation x) (s .changes))
       (controlled-inner operation)
       (λ x. refl)
   looks-effect frame (ConfigurePhyEvent expected clear p d) =
@@ -68,8 +67,7 @@ module _ (g : ℕ) (s : Shelf) where
   unfolding broadcasts deviceListed
   looks-broadcasts kind = ap (λ of. deviceListed kind (s .expander3) (s .ses0) ++ joinBelow (phyNumber s) of) (fun-ext each)
     where
-      each : (p : ℕ) → cond (reaches (looks g s) g p) (phyListed kind p (phyAt (looks g s) p)) []
-          ≡ cond (reaches s g p) (phyListed kind p (phyAt s p)) []
+      each : (p : ℕ) → ofPhy (looks g s) g kind p ≡ ofPhy s g kind p
       each p = rw (looks-reaches g s g p) (go (reaches s g p) refl)
         where
           go : (b : Bool) → reaches s g p ≡ b
@@ -79,12 +77,12 @@ module _ (g : ℕ) (s : Shelf) where
 
   looks-respond : (frame : List ℕ) (request : Request) → accepted (decide s g frame request) ≡ true
       → respond (looks g s) g request ≡ respond s g request
-  unfolding respond reportGeneral reportManufacturer reportBroadcast reportPhyErrorLog reportPhyEvent
+  unfolding respond reportGeneral reportManufacturer reportBroadcast reportPhyErrorLog reportPhyEvent decide resultOf
   looks-respond frame ReportGeneral e = refl
   looks-respond frame ReportManufacturer e = refl
   looks-respond frame (ReportBroadcast kind) e = ap (broadcastFrame (s .changes) kind) (looks-broadcasts kind)
-  looks-respond frame (ReportPhyErrorLog p) e = ap (reportPhyErrorLog (s .changes) p) (looks-reached g s p (passed-11 s g frame p e .1))
-  looks-respond frame (ReportPhyEvent p) e = ap (reportPhyEvent (s .changes) p) (looks-reached g s p (passed-14 s g frame p e .1))
+  looks-respond frame (ReportPhyErrorLog p) e = ap (reportPhyErrorLog (s .changes) p) (looks-reached g s p (read-passed (exists s p) (reaches s g p) e .1))
+  looks-respond frame (ReportPhyEvent p) e = ap (reportPhyEvent (s .changes) p) (looks-reached g s p (read-passed (exists s p) (reaches s g p) e .1))
   looks-respond frame (PhyControl expected p operation) e = refl
   looks-respond frame (ConfigurePhyEvent expected clear p d) e = refl
 
@@ -132,8 +130,8 @@ module _ (g : ℕ) (s : Shelf) where
       looks-outcome (eventTaken (exists s p) source amount) _ _
       (looks-change g s p (eventOn source amount) (λ b. b) (λ x. s .changes) (event-inner source amount) (λ x. refl))
   looks-next (LinkChange p) =
-      looks-outcome (given (not (exists s p)) (NotDone NoSuchPhy) Done) _ _
-      (looks-change g s p (λ x. changeOn (x .enabled) x) (λ b. b) (λ x. originate (s .changes)) (change-inner (λ b. b)) (λ x. refl))
+      looks-outcome (linkChangeTaken (exists s p)) _ _
+      (looks-change g s p (λ x. changeOn (x .enabled) x) (λ b. b) (λ x. originate (s .changes)) change-inner (λ x. refl))
   looks-next ReducedFunctionality =
       ap (λ t. shelfWith t (t .phys) (t .changes) (originate (s .expander3)) (t .ses0)) (looks-twice g s)
   looks-next Ses =

@@ -7,11 +7,11 @@ use native.Mathlib.Nat.{eq-zero-or-pos}
 use native.Mathlib.Omega.{arith}
 use mathlib.Core.Path.{_≡_, refl, sym, _∙_}
 use mathlib.Core.Logic.{_⊎_, inl, inr}
-use mathlib.Core.Bool.{Bool, true, false, not, cond}
+use mathlib.Core.Bool.{Bool, true, false, cond}
 use mathlib.Core.List.{List, [], _∷_}
 use borrow.Author.Tests.{ltb-true, ltb-false, eq-eqb, ne-eqb}
 use lib.Dec.{ltb, eqb}
-use Rattle.model.specs.declared.House.the-variants.{SourceGroup, NoSuchPhy}
+use Rattle.model.specs.declared.House.the-variants.{SourceGroup}
 use Rattle.model.specs.declared.Outcome.{Outcome}
 use Rattle.model.specs.declared.Reach.the-variants.{Reaches, NoReach}
 use Rattle.model.specs.declared.Shelf.{Shelf}
@@ -21,10 +21,9 @@ use Rattle.model.specs.Bytes.{byte}
 use Rattle.model.specs.Counting.{originate, eventOn, changeOn}
 use Rattle.model.specs.House.{houseNumber, takenNumber, answerNumber}
 use Rattle.model.specs.Reach.{reachSet, reachNumber, reachQuery}
-use Rattle.model.specs.Reports.{eventTaken, event, linkChange, reducedFunctionality, sesNotice}
+use Rattle.model.specs.Reports.{eventTaken, event, linkChangeTaken, linkChange, reducedFunctionality, sesNotice}
 use Rattle.model.specs.Server.{served, lentAfter}
 use Rattle.model.specs.Shelf.{exists, phyAt, put, putDevice, freshShelf, noShelf, outcome, startTaken, start}
-use Rattle.model.specs.Tests.{given}
 use Rattle.model.proofs.Demands.Refusals.{startRefusals, requestRefusals, phyRefusal, eventRefusals, start-gives}
 use Rattle.model.proofs.Demands.Refusals.{request-gives, event-gives, link-change-gives, request-refusal}
 use Rattle.model.proofs.Demands.Results.{failures, NotRefused, result-drawn, Failed, failed-result, Granted}
@@ -124,7 +123,7 @@ pub every-link-change : (s : Shelf) (p : ℕ)
     → TakenEnds (phyRefusal s p ∷ []) 7 s (put s p (changeOn (phyAt s p .enabled) (phyAt s p)) (originate (s .changes))) (linkChange s p)
 unfolding linkChange
 every-link-change s p =
-    every-taken (phyRefusal s p ∷ []) 7 (given (not (exists s p)) (NotDone NoSuchPhy) Done) s _ (link-change-gives s p)
+    every-taken (phyRefusal s p ∷ []) 7 (linkChangeTaken (exists s p)) s _ (link-change-gives s p)
 
 -- ---- A reach query is refused with H4, or answered with both numbers; a device notice is always done.
 

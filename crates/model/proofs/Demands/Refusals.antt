@@ -3,31 +3,30 @@
 use Prim.Native.Nat.{ℕ, _≤_, _<_}
 use native.Mathlib.Omega.{arith}
 use mathlib.Core.Path.{_≡_, refl}
-use mathlib.Core.Logic.{_↔_, _⊎_, Iff·trans}
-use mathlib.Core.Bool.{not, _||_}
+use mathlib.Core.Logic.{_↔_, _⊎_, Iff·rfl, Iff·trans}
+use mathlib.Core.Bool.{not}
 use mathlib.Core.List.{List, [], _∷_}
 use lib.Dec.{T, ltb, eqb}
 use lib.ListN.{length, getD}
-use Rattle.model.specs.declared.House.the-variants.{NoSuchPhy}
 use Rattle.model.specs.declared.Shelf.{Shelf}
-use Rattle.model.specs.declared.Taken.the-variants.{Done, NotDone}
 use Rattle.model.specs.Bytes.{byte}
 use Rattle.model.specs.House.{takenNumber, answerNumber, queryNumber}
 use Rattle.model.specs.Reach.{reachQuery}
-use Rattle.model.specs.Reports.{amountTooLarge, eventTaken, event, linkChange}
+use Rattle.model.specs.Reports.{eventTaken, event, linkChangeTaken, linkChange}
 use Rattle.model.specs.Request.{badFrame}
 use Rattle.model.specs.Server.{Handled, answer, lent, served, lentAfter}
 use Rattle.model.specs.Shelf.{exists, noShelf, groupsFit, startTaken, start}
 use Rattle.model.specs.Sources.{supported}
-use Rattle.model.specs.Tests.{given, within}
+use Rattle.model.specs.Tests.{within}
 use Rattle.model.specs.Zone.{zoneGroup, legalTable}
 use Rattle.model.proofs.Laws.Checks.{outcome-taken, outcome-stays}
 use Rattle.model.proofs.Laws.Handled.{concluded, handled, concluded-all, handled-all}
 use Rattle.model.proofs.Laws.Lowest.{Gives, firstGiven, row-gives}
 use Rattle.model.proofs.Laws.Tests.{check-map, denied-iff, either-iff, above-iff, ltb-iff, eqb-iff, within-iff}
 use Rattle.model.proofs.Laws.Tests.{some-below-iff}
-use Rattle.model.proofs.Plain.Reports.{amount-iff}
+use Rattle.model.proofs.Plain.Reports.{amount-iff, eventTests, event-number, link-change-number}
 use Rattle.model.proofs.Plain.Request.{bad-frame}
+use Rattle.model.proofs.Plain.Start.{startTests, start-number}
 use Rattle.model.proofs.Plain.Zone.{LegalTable, legal-table}
 
 -- ---- "Given exactly when": the table, in three parts and a line to a line
@@ -68,16 +67,11 @@ eventRefusals s p source amount =
 
 pub start-gives : (n : ℕ) (groups table identifier : List ℕ)
     → Gives (startRefusals n groups table) 1 (takenNumber (start n groups table identifier .taken))
-unfolding start startTaken
+unfolding start
 start-gives n groups table identifier =
-    rw outcome-taken
-    (simp (check-map takenNumber)
-    (row-gives
-    (not (within 1 24 n) ∷ not (groupsFit n groups) ∷ not (legalTable table) ∷ [])
-    (startRefusals n groups table)
-    1
-    (omega arith)
-    (denied-iff (within 1 24 n) (within-iff 1 24 n), (groups-iff, (denied-iff (legalTable table) (legal-table table), tt)))))
+    rw (outcome-taken, start-number n groups table)
+    (row-gives (startTests n groups table) (startRefusals n groups table) 1 (omega arith)
+    (denied-iff (within 1 24 n) (within-iff 1 24 n), (groups-iff, (denied-iff (legalTable table) (legal-table table), tt))))
   where
     groups-iff : T (not (groupsFit n groups))
         ↔ ((p : ℕ) × (p < n) × (31 < getD groups p 0))
@@ -109,30 +103,24 @@ request-gives s g frame out =
 
 pub event-gives : (s : Shelf) (p source amount : ℕ)
     → Gives (eventRefusals s p source amount) 7 (takenNumber (event s p source amount .taken))
-unfolding event eventTaken
+unfolding event
 event-gives s p source amount =
-    rw outcome-taken
-    (simp (check-map takenNumber)
-    (row-gives
-    (not (exists s p) ∷ (eqb source 0x00 || not (supported source)) ∷ amountTooLarge source amount ∷ [])
-    (eventRefusals s p source amount)
-    7
-    (omega arith) (
-      denied-iff (exists s p) (λ t. t, λ t. t),
+    rw (outcome-taken, event-number s p source amount)
+    (row-gives (eventTests s p source amount) (eventRefusals s p source amount) 7 (omega arith) (
+      denied-iff (exists s p) Iff·rfl,
       (
         either-iff (eqb source 0x00) (not (supported source)) (eqb-iff source 0x00)
-            (denied-iff (supported source) (λ t. t, λ t. t)),
+            (denied-iff (supported source) Iff·rfl),
         (amount-iff source amount, tt),
       ),
-    )))
+    ))
 
 pub link-change-gives : (s : Shelf) (p : ℕ)
     → Gives (phyRefusal s p ∷ []) 7 (takenNumber (linkChange s p .taken))
 unfolding linkChange
 link-change-gives s p =
-    rw outcome-taken
-    (simp (check-map takenNumber)
-    (row-gives (not (exists s p) ∷ []) (phyRefusal s p ∷ []) 7 (omega arith) (denied-iff (exists s p) (λ t. t, λ t. t), tt)))
+    rw (outcome-taken, link-change-number (exists s p))
+    (row-gives (not (exists s p) ∷ []) (phyRefusal s p ∷ []) 7 (omega arith) (denied-iff (exists s p) Iff·rfl, tt))
 
 pub query-gives : (s : Shelf) (g : ℕ) → Gives (sourceRefusal g ∷ []) 4 (queryNumber (reachQuery s g))
 unfolding reachQuery
@@ -164,4 +152,4 @@ event-refusal s p source amount = rw outcome-taken (outcome-stays (eventTaken (e
 
 pub link-change-refusal : (s : Shelf) (p : ℕ) → 1 ≤ takenNumber (linkChange s p .taken) → linkChange s p .shelf ≡ s
 unfolding linkChange
-link-change-refusal s p = rw outcome-taken (outcome-stays (given (not (exists s p)) (NotDone NoSuchPhy) Done) s _)
+link-change-refusal s p = rw outcome-taken (outcome-stays (linkChangeTaken (exists s p)) s _)

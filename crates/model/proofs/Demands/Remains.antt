@@ -24,7 +24,7 @@ same-told : (g : ℕ) (s t : Shelf) (operation : Operation) → looks g s ≡ lo
 same-told g s t operation e =
     sym (looks-told g s operation) ∙ ap (λ u. told g u operation) e ∙ looks-told g t operation
 
-pub same-answers : (g : ℕ) (s t : Shelf) (operations : List Operation) → looks g s ≡ looks g t
+same-answers : (g : ℕ) (s t : Shelf) (operations : List Operation) → looks g s ≡ looks g t
     → answers g s operations ≡ answers g t operations
 unfolding answers
 same-answers g s t [] e = refl

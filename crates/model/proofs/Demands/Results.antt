@@ -3,7 +3,7 @@
 use Prim.Native.Nat.{ℕ, _≤_, _<_}
 use native.Mathlib.Omega.{arith}
 use mathlib.Core.Path.{_≡_, refl, sym, ap, _∙_}
-use mathlib.Core.Logic.{_↔_, _⊎_, Iff·rfl, Iff·trans}
+use mathlib.Core.Logic.{_↔_, _⊎_, Iff·rfl, Iff·trans, Iff·not}
 use mathlib.Core.Bool.{Bool, true, false, not, _||_}
 use mathlib.Core.List.{List, [], _∷_, _++_, List·Memᴰ}
 use borrow.Author.Tests.{eqb-true, eq-eqb, ne-eqb}
@@ -28,7 +28,7 @@ use Rattle.model.proofs.Demands.Frames.{Framed, requestFunction, respon
 use Rattle.model.proofs.Laws.Checks.{house-some}
 use Rattle.model.proofs.Laws.Drawn.{Draws, firstFailure, Tell, nothing, tell, draws-first, AllPass, passes-all}
 use Rattle.model.proofs.Laws.Handled.{verdict, granted, concluded, both-handled, concluded-all}
-use Rattle.model.proofs.Laws.Tests.{fails-iff, fails-under-iff, leb-iff, eqb-iff, oneOf-iff, check-map}
+use Rattle.model.proofs.Laws.Tests.{fails-under-iff, leb-iff, eqb-iff, oneOf-iff, check-map}
 use Rattle.model.proofs.Plain.Request.{RightLength, known-iff, by-function, length-right, allowed-iff}
 use Rattle.model.proofs.Plain.Request.{none-unsupported}
 use Rattle.model.proofs.Plain.Results.{count-right, known-operation}
@@ -137,8 +137,8 @@ sources-iff frame =
 
 checks-tell : (s : Shelf) (g : ℕ) (frame : List ℕ) → Tell (checks s g frame) (failures s g frame)
 checks-tell s g frame =
-    tell (fails-iff (known (functionOf frame)) (known-iff (functionOf frame)))
-    (tell (fails-iff (lengthRight frame) (length-right frame))
+    tell (Iff·not (known-iff (functionOf frame)))
+    (tell (Iff·not (length-right frame))
     (tell (only-for-iff (0x91 ∷ 0x93 ∷ []) frame (countRight (s .changes) (word frame 4)) (count-right (s .changes) (word frame 4)))
     (tell (only-for-iff (0x11 ∷ 0x14 ∷ 0x91 ∷ 0x93 ∷ []) frame (exists s (byte frame 9)) Iff·rfl)
     (tell (only-for-iff (0x11 ∷ 0x14 ∷ []) frame (reaches s g (byte frame 9)) Iff·rfl)
@@ -150,7 +150,7 @@ checks-tell s g frame =
     nothing)))))))))
 
 -- The result of a request is the code of the first failure that is there, and 00h exactly if none is.
-pub verdict-drawn : (s : Shelf) (g : ℕ) (frame : List ℕ) (code : ℕ)
+verdict-drawn : (s : Shelf) (g : ℕ) (frame : List ℕ) (code : ℕ)
     → (resultCode (verdict s g frame) ≡ code)
     ↔ Draws (failures s g frame) code
 verdict-drawn s g frame code =

@@ -6,38 +6,37 @@ use native.Mathlib.Nat.{eq-zero-or-pos}
 use native.Mathlib.Omega.{arith}
 use mathlib.Core.Path.{_≡_, refl, _∙_}
 use mathlib.Core.Logic.{⊎-elim}
-use mathlib.Core.Bool.{Bool, true, false, cond, not, _||_}
+use mathlib.Core.Bool.{Bool, true, false, cond, _||_}
 use mathlib.Core.List.{List, [], _∷_, List·Memᴰ·head, List·Memᴰ·tail}
 use lib.Dec.{T}
 use lib.ListN.{length}
-use Rattle.model.specs.declared.House.the-variants.{NoSuchPhy}
 use Rattle.model.specs.declared.Request.{Request}
 use Rattle.model.specs.declared.Request.the-variants.{ReportGeneral, ReportManufacturer, ReportBroadcast}
 use Rattle.model.specs.declared.Request.the-variants.{ReportPhyErrorLog, ReportPhyEvent, PhyControl, ConfigurePhyEvent}
 use Rattle.model.specs.declared.Shelf.{Shelf}
-use Rattle.model.specs.declared.Taken.the-variants.{Done, NotDone}
 use Rattle.model.specs.Bytes.{byte, word}
 use Rattle.model.specs.House.{answerNumber}
 use Rattle.model.specs.Reach.{reaches}
-use Rattle.model.specs.Reports.{eventTaken, event, linkChange, reducedFunctionality, sesNotice}
+use Rattle.model.specs.Reports.{eventTaken, event, linkChangeTaken, linkChange, reducedFunctionality, sesNotice}
 use Rattle.model.specs.Request.{functionOf, known, lengthRight, asked}
-use Rattle.model.specs.Results.{resultCode, accepted, countRight, decide}
+use Rattle.model.specs.Results.{resultCode, accepted, countRight, checkOperation, checkDescriptors, resultOf, decide}
 use Rattle.model.specs.Server.{served, lentAfter}
 use Rattle.model.specs.Shelf.{exists, phyAt}
-use Rattle.model.specs.Tests.{check, given, oneOf}
+use Rattle.model.specs.Tests.{check, oneOf}
 use Rattle.model.specs.Writes.{effect}
 use Rattle.model.proofs.Demands.Refusals.{request-refusal}
 use Rattle.model.proofs.Demands.Results.{Of, NotRefused, verdict-checks, result-byte, Failed, failed-result}
-use Rattle.model.proofs.Laws.Checks.{every-outcome, passed-91, passed-93}
+use Rattle.model.proofs.Laws.Checks.{every-outcome, write-passed}
 use Rattle.model.proofs.Laws.Handled.{verdict, handled-all, accepted-decided}
 use Rattle.model.proofs.Laws.Tests.{is-false, by-each, check-both, cond-both}
+use Rattle.model.proofs.Plain.Request.{phyFunctions}
 use Rattle.model.proofs.Plain.Shelf.{OnlyPhy, same-only, put-only, put-other}
 
 -- ---- A stranger's request
 
 -- A request of one of the four functions with a phy, which its source does not reach.
 pub record Strange (s : Shelf) (g : ℕ) (frame : List ℕ) : Type 0 where
-  pub function : Of (0x11 ∷ 0x14 ∷ 0x91 ∷ 0x93 ∷ []) frame
+  pub function : Of phyFunctions frame
   pub unreached : T (reaches s g (byte frame 9)) → ⊥
 
 -- All that its answer depends on: the function, and whether the length, the count (of a write) and the phy's existence pass.
@@ -49,7 +48,7 @@ strangerCode function lengthPasses countPasses there =
     (check there 0x10
     (cond read 0x16 0x20)))
 
--- the four that a frame gives on a shelf
+-- the code that a frame so draws on a shelf
 abbrev pub codeFor : Shelf → List ℕ → ℕ
 codeFor s frame =
     strangerCode (functionOf frame) (lengthRight frame) (countRight (s .changes) (word frame 4)) (exists s (byte frame 9))
@@ -59,7 +58,7 @@ stranger-verdict : (s : Shelf) (g : ℕ) (frame : List ℕ) → Strange s g fram
 unfolding known
 stranger-verdict s g frame strange =
     let out : reaches s g (byte frame 9) ≡ false = is-false (reaches s g (byte frame 9)) (strange .unreached) in
-    by-each (resultCode (verdict s g frame) ≡ codeFor s frame) (functionOf frame) (0x11 ∷ 0x14 ∷ 0x91 ∷ 0x93 ∷ []) (strange .function)
+    by-each (resultCode (verdict s g frame) ≡ codeFor s frame) (functionOf frame) phyFunctions (strange .function)
     (λ e. rw (verdict-checks s g frame, e, out))
     (λ e. rw (verdict-checks s g frame, e, out))
     (λ e. rw (verdict-checks s g frame, e, out))
@@ -98,7 +97,7 @@ strangers-learn-nothing s t g h frame frame′ out answered answered′ strange 
     let one : Failed s g frame out (codeFor s frame) = stranger-answered s g frame out answered strange in
     let other : Failed t h frame′ out (codeFor t frame′) = stranger-answered t h frame′ out answered′ strange′ in
     let code : codeFor s frame ≡ codeFor t frame′ =
-    by-each (codeFor s frame ≡ codeFor t frame′) (functionOf frame) (0x11 ∷ 0x14 ∷ 0x91 ∷ 0x93 ∷ []) (strange .function)
+    by-each (codeFor s frame ≡ codeFor t frame′) (functionOf frame) phyFunctions (strange .function)
     (λ e. rw (← function, e, lengths, there))
     (λ e. rw (← function, e, lengths, there))
     (λ e. rw (← function, counts (List·Memᴰ·head e), lengths, there))
@@ -109,16 +108,18 @@ strangers-learn-nothing s t g h frame frame′ out answered answered′ strange 
 
 effect-elsewhere : (s : Shelf) (g : ℕ) (frame : List ℕ) (request : Request) (q : ℕ) → (T (reaches s g q) → ⊥)
     → accepted (decide s g frame request) ≡ true → phyAt (effect s frame request) q ≡ phyAt s q
-unfolding effect
+unfolding effect decide resultOf
 effect-elsewhere s g frame ReportGeneral q out e = refl
 effect-elsewhere s g frame ReportManufacturer q out e = refl
 effect-elsewhere s g frame (ReportBroadcast kind) q out e = refl
 effect-elsewhere s g frame (ReportPhyErrorLog p) q out e = refl
 effect-elsewhere s g frame (ReportPhyEvent p) q out e = refl
 effect-elsewhere s g frame (PhyControl expected p operation) q out e =
-    put-other s p _ (s .changes) q (λ same. out (rw (same, passed-91 s g frame expected p operation e .1) tt))
+    let reached = write-passed (countRight (s .changes) expected) (exists s p) (reaches s g p) (checkOperation operation) e .1 in
+    put-other s p _ (s .changes) q (λ same. out (rw (same, reached) tt))
 effect-elsewhere s g frame (ConfigurePhyEvent expected clear p d) q out e =
-    put-other s p _ (s .changes) q (λ same. out (rw (same, passed-93 s g frame expected p d clear e .1) tt))
+    let reached = write-passed (countRight (s .changes) expected) (exists s p) (reaches s g p) (checkDescriptors frame d) e .1 in
+    put-other s p _ (s .changes) q (λ same. out (rw (same, reached) tt))
 
 pub request-elsewhere : (s : Shelf) (g : ℕ) (frame out : List ℕ) (q : ℕ) → (T (reaches s g q) → ⊥)
     → phyAt (served s g frame out .shelf) q ≡ phyAt s q
@@ -137,7 +138,7 @@ event-only s p source amount =
 pub link-change-only : (s : Shelf) (p : ℕ) → OnlyPhy s p (linkChange s p .shelf)
 unfolding linkChange
 link-change-only s p =
-    every-outcome (OnlyPhy s p) (given (not (exists s p)) (NotDone NoSuchPhy) Done) s _ (same-only s p) (λ done. put-only s p _ _)
+    every-outcome (OnlyPhy s p) (linkChangeTaken (exists s p)) s _ (same-only s p) (λ done. put-only s p _ _)
 
 pub notices-elsewhere : (s : Shelf) → (reducedFunctionality s .phys ≡ s .phys) × (sesNotice s .phys ≡ s .phys)
 unfolding reducedFunctionality sesNotice

@@ -3,7 +3,7 @@
 use Prim.Native.Nat.{ℕ}
 use mathlib.Core.Path.{_≡_, refl}
 use mathlib.Core.Bool.{false}
-use mathlib.Core.List.{List, [], _∷_, List·Memᴰ·head, List·Memᴰ·tail}
+use mathlib.Core.List.{List, [], List·Memᴰ·head, List·Memᴰ·tail}
 use borrow.Author.Tests.{ne-eqb}
 use lib.Dec.{T, eqb}
 use lib.ListN.{length}
@@ -14,11 +14,10 @@ use Rattle.model.specs.Counting.{eventOn}
 use Rattle.model.specs.CrossedOut.{aboutPhy, linkResetOrDisable, crossedOut}
 use Rattle.model.specs.Reach.{reaches}
 use Rattle.model.specs.Reports.{eventTaken, event}
-use Rattle.model.specs.Request.{functionOf, asked}
+use Rattle.model.specs.Request.{functionOf, clears, asked}
 use Rattle.model.specs.Runs.{Operation, Ask, Event, LinkChange, ReducedFunctionality, Ses, QueryReach, next, told}
 use Rattle.model.specs.Shelf.{exists, phyAt}
 use Rattle.model.specs.Writes.{controlled, controlChanges, configured, effect}
-use Rattle.model.specs.Zone.{bit}
 use Rattle.model.proofs.Demands.Looks.{looks, looks-stays}
 use Rattle.model.proofs.Laws.Checks.{every-outcome}
 use Rattle.model.proofs.Laws.Handled.{handled-all}
@@ -26,7 +25,7 @@ use Rattle.model.proofs.Laws.PhyChanges.{Inner, event-inner, configured
 use Rattle.model.proofs.Laws.Steps.{SameZones}
 use Rattle.model.proofs.Laws.Tests.{is-false, by-each}
 use Rattle.model.proofs.Plain.CrossedOut.{CrossedRequest, crossed-request-iff, crossed-event-iff}
-use Rattle.model.proofs.Plain.Request.{asked-91, asked-93}
+use Rattle.model.proofs.Plain.Request.{phyFunctions, asked-91, asked-93}
 
 -- ---- a request
 
@@ -49,7 +48,7 @@ module _ (g : ℕ) (s : Shelf) where
       → looks g (effect s frame (asked frame)) ≡ looks g s
   unfolding effect asked
   unseen-effect h frame crossed =
-      by-each (looks g (effect s frame (asked frame)) ≡ looks g s) (functionOf frame) (0x11 ∷ 0x14 ∷ 0x91 ∷ 0x93 ∷ []) (crossed .about .0)
+      by-each (looks g (effect s frame (asked frame)) ≡ looks g s) (functionOf frame) phyFunctions (crossed .about .0)
       (λ e. rw e)
       (λ e. rw e)
       control
@@ -61,18 +60,18 @@ module _ (g : ℕ) (s : Shelf) where
       control : functionOf frame ≡ 0x91 → looks g (effect s frame (asked frame)) ≡ looks g s
       control e =
           let no-reset : eqb (byte frame 10) 0x01 ≡ false =
-          ne-eqb (byte frame 10) 0x01 (λ same. crossed .no-link-control (crossed .about, e, List·Memᴰ·head same)) in
+          ne-eqb (byte frame 10) 0x01 (λ same. crossed .no-reset-or-disable (crossed .about, e, List·Memᴰ·head same)) in
           let no-disable : eqb (byte frame 10) 0x03 ≡ false =
           ne-eqb (byte frame 10) 0x03
-          (λ same. crossed .no-link-control (crossed .about, e, List·Memᴰ·tail (List·Memᴰ·head same))) in
+          (λ same. crossed .no-reset-or-disable (crossed .about, e, List·Memᴰ·tail (List·Memᴰ·head same))) in
           rw (asked-91 frame e, quiet-count (byte frame 10) no-reset no-disable (phyAt s (byte frame 9)))
           (looks-stays g s (byte frame 9) (controlled (byte frame 10)) (quiet-inner (byte frame 10) no-reset no-disable) out)
 
       configure : functionOf frame ≡ 0x93 → looks g (effect s frame (asked frame)) ≡ looks g s
       configure e =
           rw (asked-93 frame e)
-          (looks-stays g s (byte frame 9) (configured frame (byte frame 11) (bit (byte frame 6) 0))
-          (configured-inner frame (byte frame 11) (bit (byte frame 6) 0))
+          (looks-stays g s (byte frame 9) (configured frame (byte frame 11) (clears frame))
+          (configured-inner frame (byte frame 11) (clears frame))
           out)
 
   -- ---- every crossed-out operation

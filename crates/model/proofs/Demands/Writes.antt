@@ -1,6 +1,7 @@
 -- Demand 2, the writes: "A write that draws no house refusal takes its full effect exactly when its length, count, phy, zone and contents
 -- all pass, and otherwise has no effect at all." And reads never change the shelf. Assumes nothing.
 use Prim.Native.Nat.{ℕ, _+_, _*_, _≤_, _<_}
+use native.Mathlib.Nat.{pos-of-ne-zero}
 use native.Mathlib.Omega.{arith}
 use mathlib.Core.Path.{_≡_, refl, subst⁻¹}
 use mathlib.Core.Logic.{_↔_, Iff·trans, Iff·and}
@@ -23,7 +24,7 @@ use Rattle.model.proofs.Laws.Handled.{handled-all, accepted-decided}
 use Rattle.model.proofs.Laws.Tests.{leb-iff}
 use Rattle.model.proofs.Plain.Reach.{exists-iff}
 use Rattle.model.proofs.Plain.Request.{asked-91, asked-93, by-function, right-length-91, right-length-93}
-use Rattle.model.proofs.Plain.Results.{count-right, known-operation}
+use Rattle.model.proofs.Plain.Results.{count-right, knownOperations, known-operation}
 
 -- length, count, phy, zone and contents all pass
 pub record Passes (s : Shelf) (g : ℕ) (frame : List ℕ) (size : ℕ) (lengths : List ℕ) (Contents : Type 0) : Type 0 where
@@ -40,7 +41,7 @@ pub record Passes (s : Shelf) (g : ℕ) (frame : List ℕ) (size : ℕ) (lengths
 -- 91h: the operation in byte 10 is one of the four
 abbrev pub ControlPasses : Shelf → ℕ → List ℕ → Type 0
 ControlPasses s g frame =
-    Passes s g frame 40 (0x09 ∷ 0x00 ∷ []) (List·Memᴰ (byte frame 10) (0x00 ∷ 0x01 ∷ 0x03 ∷ 0x05 ∷ []))
+    Passes s g frame 40 (0x09 ∷ 0x00 ∷ []) (List·Memᴰ (byte frame 10) knownOperations)
 
 -- 93h: there are at most four descriptors, and each has the source 00h or a supported one
 abbrev pub ConfigurePasses : Shelf → ℕ → List ℕ → Type 0
@@ -117,29 +118,27 @@ module _ (s : Shelf) (g : ℕ) (frame out : List ℕ) (answered : NotRefused s g
 -- ---- the full effect, or none at all
 
 -- t is the shelf afterwards
-pub record FullOrNone (Passes : Type 0) (Full : Shelf → Type 0) (s t : Shelf) : Type 0 where
-  pub full : Passes → Full t
-  pub none : (Passes → ⊥) → t ≡ s
+pub record FullOrNone (Passing : Type 0) (Full : Shelf → Type 0) (s t : Shelf) : Type 0 where
+  pub full : Passing → Full t
+  pub none : (Passing → ⊥) → t ≡ s
 
 -- of a request that is accepted exactly when it passes, and whose effect is full
-full-or-none : (s : Shelf) (g : ℕ) (frame out : List ℕ) {Passes : Type 0} {Full : Shelf → Type 0}
-    → NotRefused s g frame out → (byte (lentAfter s g frame out) 2 ≡ 0x00) ↔ Passes
-    → (Passes → Full (effect s frame (asked frame)))
-    → FullOrNone Passes Full s (served s g frame out .shelf)
+full-or-none : (s : Shelf) (g : ℕ) (frame out : List ℕ) {Passing : Type 0} {Full : Shelf → Type 0}
+    → NotRefused s g frame out → (byte (lentAfter s g frame out) 2 ≡ 0x00) ↔ Passing
+    → (Passing → Full (effect s frame (asked frame)))
+    → FullOrNone Passing Full s (served s g frame out .shelf)
 full-or-none s g frame out {Full = Full} answered passes full =
     record {
       full = λ yes-all.
           subst⁻¹ Full (granted-result s g frame out answered (passes .1 yes-all) .moves) (full yes-all);
       none = λ not-all.
           let some : 1 ≤ byte (lentAfter s g frame out) 2 =
-          positive (byte (lentAfter s g frame out) 2) (λ e. not-all (passes .0 e)) in
+          pos-of-ne-zero (λ e. not-all (passes .0 e)) in
           failed-result s g frame out (byte (lentAfter s g frame out) 2) answered refl some .stays;
     }
-  where
-    positive : (n : ℕ) → (n ≡ 0 → ⊥) → 1 ≤ n
-    positive n h = omega arith
 
--- The full effect is that of a shelf whose array of phys has its 24 places, as every record has; that there is none asks nothing of it.
+-- The full effect is stated of a shelf whose array of phys has its 24 places, as every record has. That there is no effect needs no such
+-- condition.
 abbrev pub Placed : Shelf → Type 0
 Placed s = length (s .phys) ≡ 24
 

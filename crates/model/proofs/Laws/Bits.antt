@@ -1,10 +1,10 @@
 -- A set as a number: the sum of 2 ^ p over the p below n that pass a test has exactly their bits, and as many ones. Assumes nothing.
 use Prim.Native.Nat.{ℕ, zero, suc, _+_, _-_, _*_, _/_, _%_, _^_, _≤_, _<_}
-use native.Mathlib.Nat.{pow-suc, zero-mul, one-mul, add-comm, div-eq-of-lt, sub-add-cancel, eq-or-lt-of-le}
-use native.Mathlib.Nat.{le-of-suc-le-suc, not-suc-le-zero, lt-of-lt-of-le}
+use native.Mathlib.Nat.{pow-suc, zero-mul, one-mul, add-comm, div-eq-of-lt, sub-add-cancel}
+use native.Mathlib.Nat.{not-suc-le-zero, lt-of-lt-of-le}
 use native.Mathlib.Omega.{arith}
-use mathlib.Core.Path.{_≡_, refl, sym, ap, subst⁻¹, _∙_}
-use mathlib.Core.Logic.{_↔_, ⊎-elim}
+use mathlib.Core.Path.{_≡_, refl, sym, ap, _∙_}
+use mathlib.Core.Logic.{_↔_}
 use mathlib.Core.Bool.{Bool, true, false, cond}
 use borrow.Author.Tests.{ltb-true, ltb-false}
 use lib.Count.{ones, ones-cat}
@@ -12,6 +12,7 @@ use lib.Dec.{T, ltb, eqb}
 use lib.Pow.{pow-mono, high, low, field, mod-mod-pow}
 use Rattle.model.specs.Tests.{sumBelow}
 use Rattle.model.specs.Zone.{bit}
+use Rattle.model.proofs.Laws.Tests.{below-suc}
 
 abbrev pub powers : ℕ → (ℕ → Bool) → ℕ
 powers n test = sumBelow n (λ p. cond (test p) (2 ^ p) 0)
@@ -28,7 +29,7 @@ powers-suc : (n : ℕ) (test : ℕ → Bool) → powers (suc n) test ≡ cond (t
 unfolding sumBelow
 powers-suc n test = above (test n) n (powers n test)
 
-pub powers-lt : (n : ℕ) (test : ℕ → Bool) → powers n test < 2 ^ n
+powers-lt : (n : ℕ) (test : ℕ → Bool) → powers n test < 2 ^ n
 unfolding sumBelow
 powers-lt zero test = omega arith
 powers-lt (suc n) test = grow (test n) (powers-lt n test)
@@ -83,19 +84,17 @@ bit-past : (x k : ℕ) → x < 2 ^ k → bit x k ≡ false
 bit-past x k fits = ap (λ (n : ℕ). eqb (n % 2) 1) (div-eq-of-lt fits)
 
 -- bit p, where p is below n, and where it is not
-pub bit-powers : (n : ℕ) (test : ℕ → Bool) (p : ℕ) → p < n → bit (powers n test) p ≡ test p
+bit-powers : (n : ℕ) (test : ℕ → Bool) (p : ℕ) → p < n → bit (powers n test) p ≡ test p
 bit-powers zero test p h = absurd (not-suc-le-zero h)
 bit-powers (suc n) test p h =
     ap (λ (x : ℕ). bit x p) (powers-suc n test)
-    ∙ ⊎-elim
-    (λ e.
-    subst⁻¹ (λ (q : ℕ). bit (cond (test n) 1 0 * 2 ^ n + powers n test) q ≡ test q)
-    e
-    (bit-at (test n) (powers n test) n (powers-lt n test)))
-    (λ l. bit-low (cond (test n) 1 0) (powers n test) n p (powers-lt n test) l ∙ bit-powers n test p l)
-    (eq-or-lt-of-le (le-of-suc-le-suc h))
+    ∙ below-suc (λ q. bit (cond (test n) 1 0 * 2 ^ n + powers n test) q ≡ test q) n
+    (λ q l. bit-low (cond (test n) 1 0) (powers n test) n q (powers-lt n test) l ∙ bit-powers n test q l)
+    (bit-at (test n) (powers n test) n (powers-lt n test))
+    p
+    h
 
-pub bit-powers-past : (n : ℕ) (test : ℕ → Bool) (p : ℕ) → n ≤ p → bit (powers n test) p ≡ false
+bit-powers-past : (n : ℕ) (test : ℕ → Bool) (p : ℕ) → n ≤ p → bit (powers n test) p ≡ false
 bit-powers-past n test p h = bit-past (powers n test) p (lt-of-lt-of-le (powers-lt n test) (pow-mono h))
 
 pub bit-powers-iff : (n : ℕ) (test : ℕ → Bool) (p : ℕ) → T (bit (powers n test) p) ↔ (T (ltb p n) × T (test p))

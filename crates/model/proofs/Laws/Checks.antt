@@ -1,29 +1,19 @@
 -- What a start or a report is told, what becomes of the shelf, and what is known of a request that passed its checks. Assumes nothing.
-use Prim.Native.Nat.{ℕ, _≤_}
+use Prim.Native.Nat.{_≤_}
 use native.Mathlib.Omega.{arith}
-use mathlib.Core.Path.{_≡_, refl, sym, _∙_}
-use mathlib.Core.Logic.{_↔_, Iff·trans}
-use mathlib.Core.Bool.{Bool, true, false, not, false≢true}
-use mathlib.Core.List.{List}
-use lib.Dec.{T}
+use mathlib.Core.Path.{_≡_, refl}
+use mathlib.Core.Logic.{_↔_}
+use mathlib.Core.Bool.{Bool, true, false, false≢true}
 use Rattle.model.specs.declared.FunctionResult.{FunctionResult}
 use Rattle.model.specs.declared.House.{House}
 use Rattle.model.specs.declared.House.the-variants.{PhyNumber, PhyGroup, IllegalTable, SourceGroup, ShortBuffer}
 use Rattle.model.specs.declared.House.the-variants.{BadFrame, NoSuchPhy, EventSource, Amount}
-use Rattle.model.specs.declared.Request.{Request}
-use Rattle.model.specs.declared.Request.the-variants.{ReportPhyErrorLog, ReportPhyEvent, PhyControl, ConfigurePhyEvent}
 use Rattle.model.specs.declared.Shelf.{Shelf}
 use Rattle.model.specs.declared.Taken.{Taken}
 use Rattle.model.specs.declared.Taken.the-variants.{Done, NotDone}
 use Rattle.model.specs.House.{houseNumber, takenNumber}
-use Rattle.model.specs.Reach.{reaches}
-use Rattle.model.specs.Results.{accepted, resultOf, decide}
-use Rattle.model.specs.Shelf.{exists, outcome}
-use Rattle.model.proofs.Laws.Tests.{not-not-iff, not-false, check-same, check-map}
-
--- a condition that says "not .." is false exactly if what stands behind the "not" holds
-pub unless-iff : (a : Bool) {A : Type 0} → T a ↔ A → (T (not a) → ⊥) ↔ A
-unless-iff a f = Iff·trans (not-not-iff a) f
+use Rattle.model.specs.Results.{accepted, checkRead, checkWrite}
+use Rattle.model.specs.Shelf.{outcome}
 
 -- every house refusal has a number from 1 on
 pub house-some : (house : House) → 1 ≤ houseNumber house
@@ -62,43 +52,16 @@ pub outcome-stays : (taken : Taken) (old new : Shelf) → 1 ≤ takenNumber take
 outcome-stays Done old new refused = absurd (omega arith)
 outcome-stays (NotDone house) old new refused = refl
 
--- ---- The phy of a request that is accepted exists and is reached, wherever these checks stand among the others.
+-- ---- A read or a write that is accepted is of a phy that exists and is reached.
 
--- two tests without which a result is no 00h
-both-passed : (result : FunctionResult) (a b : Bool) → (a ≡ false → accepted result ≡ false)
-    → (b ≡ false → accepted result ≡ false) → accepted result ≡ true → (a ≡ true) × (b ≡ true)
-both-passed result a b without-a without-b e =
-    (not-false a (λ out. false≢true (sym (without-a out) ∙ e)), not-false b (λ out. false≢true (sym (without-b out) ∙ e)))
+pub read-passed : (there reached : Bool) → accepted (checkRead there reached) ≡ true → (there ≡ true) × (reached ≡ true)
+read-passed true true e = (refl, refl)
+read-passed true false e = absurd (false≢true e)
+read-passed false reached e = absurd (false≢true e)
 
-module _ (s : Shelf) (g : ℕ) (frame : List ℕ) where
-  -- what is known of phy p where this request is accepted
-  abbrev pub Passed : Request → ℕ → Type 0
-  Passed request p = accepted (decide s g frame request) ≡ true → (exists s p ≡ true) × (reaches s g p ≡ true)
-
-  pub passed-11 : (p : ℕ) → Passed (ReportPhyErrorLog p) p
-  unfolding decide resultOf
-  passed-11 p =
-      both-passed (decide s g frame (ReportPhyErrorLog p)) (exists s p) (reaches s g p)
-      (λ out. simp (check-map accepted, out))
-      (λ out. simp (check-map accepted, out, check-same))
-
-  pub passed-14 : (p : ℕ) → Passed (ReportPhyEvent p) p
-  unfolding decide resultOf
-  passed-14 p =
-      both-passed (decide s g frame (ReportPhyEvent p)) (exists s p) (reaches s g p)
-      (λ out. simp (check-map accepted, out))
-      (λ out. simp (check-map accepted, out, check-same))
-
-  pub passed-91 : (expected p operation : ℕ) → Passed (PhyControl expected p operation) p
-  unfolding decide resultOf
-  passed-91 expected p operation =
-      both-passed (decide s g frame (PhyControl expected p operation)) (exists s p) (reaches s g p)
-      (λ out. simp (check-map accepted, out, check-same))
-      (λ out. simp (check-map accepted, out, check-same))
-
-  pub passed-93 : (expected p d : ℕ) (clear : Bool) → Passed (ConfigurePhyEvent expected clear p d) p
-  unfolding decide resultOf
-  passed-93 expected p d clear =
-      both-passed (decide s g frame (ConfigurePhyEvent expected clear p d)) (exists s p) (reaches s g p)
-      (λ out. simp (check-map accepted, out, check-same))
-      (λ out. simp (check-map accepted, out, check-same))
+pub write-passed : (count there reached : Bool) (contents : FunctionResult)
+    → accepted (checkWrite count there reached contents) ≡ true → (there ≡ true) × (reached ≡ true)
+write-passed true true true contents e = (refl, refl)
+write-passed true true false contents e = absurd (false≢true e)
+write-passed true false reached contents e = absurd (false≢true e)
+write-passed false there reached contents e = absurd (false≢true e)

@@ -1,4 +1,4 @@
--- "In this order, first failure decides." Assumes nothing.
+-- "In this order, first failure decides". Assumes nothing.
 use Prim.Native.Nat.{ℕ, _<_}
 use native.Mathlib.Omega.{arith}
 use mathlib.Core.Path.{_≡_, refl, sym}
@@ -7,6 +7,7 @@ use mathlib.Core.Bool.{Bool, true, false, _&&_}
 use mathlib.Core.List.{List, [], _∷_}
 use lib.Dec.{T, ltb}
 use Rattle.model.specs.Tests.{check}
+use Rattle.model.proofs.Laws.Places.{All}
 use Rattle.model.proofs.Laws.Tests.{and-iff, ltb-iff}
 
 -- Failures in their order, each with its code and when it is there. A code is drawn if its failure is there and none before it is;
@@ -42,18 +43,17 @@ draws-first tests failures (tell {test = false} {There = There} says telling) co
 -- ---- 00h is drawn exactly if every check passes, where none has the code 00h.
 
 abbrev pub AllPass : List (ℕ × Bool) → Type 0
-AllPass [] = Unit {0}
-AllPass (test ∷ tests) = T (test .1) × AllPass tests
+AllPass = All (λ test. T (test .1))
 
-abbrev pub coded : List (ℕ × Bool) → Bool
-coded [] = true
-coded (test ∷ tests) = ltb 0x00 (test .0) && coded tests
+abbrev pub noCode00 : List (ℕ × Bool) → Bool
+noCode00 [] = true
+noCode00 (test ∷ tests) = ltb 0x00 (test .0) && noCode00 tests
 
-pub passes-all : (tests : List (ℕ × Bool)) → T (coded tests) → (firstFailure tests ≡ 0x00) ↔ AllPass tests
+pub passes-all : (tests : List (ℕ × Bool)) → T (noCode00 tests) → (firstFailure tests ≡ 0x00) ↔ AllPass tests
 passes-all [] t = (λ e. tt, λ all. refl)
 passes-all ((c, true) ∷ tests) t =
-    let later = passes-all tests (and-iff (ltb 0x00 c) (coded tests) .0 t .1) in
+    let later = passes-all tests (and-iff (ltb 0x00 c) (noCode00 tests) .0 t .1) in
     (λ e. (tt, later .0 e), λ all. later .1 (all .1))
 passes-all ((c, false) ∷ tests) t =
-    let some : 0x00 < c = ltb-iff 0x00 c .0 (and-iff (ltb 0x00 c) (coded tests) .0 t .0) in
+    let some : 0x00 < c = ltb-iff 0x00 c .0 (and-iff (ltb 0x00 c) (noCode00 tests) .0 t .0) in
     (λ e. absurd (omega arith), λ all. absurd (all .0))

@@ -110,6 +110,7 @@ pub sent-all : (P : List ℕ → Type 0) (s : Shelf) (g : ℕ) (frame : List ℕ
     → (accepted (verdict s g frame) ≡ true → P (respond s g (asked frame)))
     → (bytes : List ℕ) → handle s g frame room .reply ≡ Sends bytes → P bytes
 sent-all P s g frame room failing passing =
+    -- a refusal sends nothing: from `Refuses house ≡ Sends bytes` would follow 0 ≡ 1
     handled-all (λ h. (bytes : List ℕ) → h .reply ≡ Sends bytes → P bytes) s g frame room
     (λ house bytes e. absurd (let z : _≡_ {A = ℕ} 0 1 = cc in omega arith))
     (sent failing)

@@ -71,8 +71,8 @@ has-join (suc n) of {a} p h m =
 -- ---- when it rises: below n, what belongs to p has keys from `low p` up to below `low (p + 1)`, and rises
 
 module _ {A : Type 0} (key : A → ℕ) (of : ℕ → List A) (low : ℕ → ℕ) (climbs : (p : ℕ) → low p ≤ low (suc p)) where
-  reaches-up : (p n : ℕ) → p ≤ n → low p ≤ low n
-  reaches-up p n h = le-ind (λ (m : ℕ). low p ≤ low m) (le-refl (low p)) (λ m l e. le-trans e (climbs m)) n h
+  low-climbs : (p n : ℕ) → p ≤ n → low p ≤ low n
+  low-climbs p n h = le-ind (λ (m : ℕ). low p ≤ low m) (le-refl (low p)) (λ m l e. le-trans e (climbs m)) n h
 
   pub join-rising : (n : ℕ)
       → ((p : ℕ) (x : A) → p < n → List·Memᴰ x (of p) → (low p ≤ key x) × (key x < low (suc p)))
@@ -84,4 +84,4 @@ module _ {A : Type 0} (key : A → ℕ) (of : ℕ → List A) (low : ℕ → ℕ
       (λ x y mx my.
       let (p, h, there) = join-has n of mx in
       lt-of-lt-of-le (apart p x (omega arith) there .1)
-      (le-trans (reaches-up (suc p) n h) (apart n y (le-refl (suc n)) my .0)))
+      (le-trans (low-climbs (suc p) n h) (apart n y (le-refl (suc n)) my .0)))

@@ -1,6 +1,5 @@
 -- "The lowest number that applies is given." Assumes nothing.
 use Prim.Native.Nat.{ℕ, suc, _≤_, _<_}
-use native.Mathlib.Nat.{lt-of-not-le, le-of-suc-le-suc}
 use native.Mathlib.Omega.{arith}
 use mathlib.Core.Path.{_≡_, refl, sym}
 use mathlib.Core.Logic.{_↔_, _⊎_, inl, inr, ⊎-elim, Iff·trans}
@@ -8,6 +7,8 @@ use mathlib.Core.Bool.{Bool, true, false}
 use mathlib.Core.List.{List, [], _∷_}
 use lib.Dec.{T}
 use Rattle.model.specs.Tests.{given}
+use Rattle.model.proofs.Laws.Places.{All}
+use Rattle.model.proofs.Laws.Tests.{not-above}
 
 -- Conditions in a row, numbered from n on: number k applies.
 abbrev pub Applies : List (Type 0) → ℕ → ℕ → Type 0
@@ -50,7 +51,7 @@ lowest-here A rest n k holds from = (
   λ h. (inl (sym (h .1), holds), λ j below there. omega (arith, applies-from (A ∷ rest) n j there)),
   λ h.
       let least : n ≤ k = applies-from (A ∷ rest) n k (h .0) in
-      let most : k ≤ n = le-of-suc-le-suc (lt-of-not-le (λ below. h .1 n below (inl (refl, holds)))) in
+      let most : k ≤ n = not-above (λ below. h .1 n below (inl (refl, holds))) in
       (omega arith, omega arith),
 )
 
@@ -73,8 +74,7 @@ row-each (false ∷ tests) (A ∷ rest) n from say k =
 -- ---- and 0 exactly when none of them holds
 
 abbrev pub NoneHolds : List Bool → Type 0
-NoneHolds [] = Unit {0}
-NoneHolds (a ∷ tests) = (T a → ⊥) × NoneHolds tests
+NoneHolds = All (λ a. T a → ⊥)
 
 pub none-given : (tests : List Bool) (n : ℕ) → 1 ≤ n → (firstGiven tests n ≡ 0) ↔ NoneHolds tests
 none-given [] n from = (λ e. tt, λ none. refl)

@@ -6,12 +6,8 @@ use mathlib.Core.Bool.{Bool, true, false, cond, _&&_, _||_}
 use mathlib.Core.List.{List}
 use lib.Dec.{eqb}
 use Rattle.model.specs.declared.Phy.{Phy}
-use Rattle.model.specs.Counting.{originate, eventOn, changeOn}
+use Rattle.model.specs.Counting.{originateIf, eventOn, changeOn}
 use Rattle.model.specs.Writes.{withoutErrors, controlled, controlChanges, setOn, clearOn, configured}
-
--- a count that is originated, or not
-abbrev pub moved : Bool → ℕ → ℕ
-moved b count = cond b (originate count) count
 
 -- A change of a phy that keeps its group, and that makes it enabled or not by no more than whether it was.
 pub record Inner (f : Phy → Phy) (enables : Bool → Bool) : Type 0 where
@@ -22,9 +18,9 @@ pub event-inner : (source amount : ℕ) → Inner (eventOn source amount) (λ b.
 unfolding eventOn
 event-inner source amount = record { group = λ x. refl; enabled = λ x. refl }
 
-pub change-inner : (enables : Bool → Bool) → Inner (λ x. changeOn (enables (x .enabled)) x) enables
+pub change-inner : Inner (λ x. changeOn (x .enabled) x) (λ b. b)
 unfolding changeOn
-change-inner enables = record { group = λ x. refl; enabled = λ x. refl }
+change-inner = record { group = λ x. refl; enabled = λ x. refl }
 
 pub configured-inner : (frame : List ℕ) (d : ℕ) (clear : Bool) → Inner (configured frame d clear) (λ b. b)
 unfolding configured setOn clearOn
@@ -40,7 +36,7 @@ controlled-by : (x : Phy) (one three five on : Bool) → x .enabled ≡ on
     → let y : Phy = cond one (changeOn true x) (cond three (cond on (changeOn false x) x) (cond five (withoutErrors x) x)) in
     (y .group ≡ x .group)
     × (y .enabled ≡ cond one true (cond three false (x .enabled)))
-    × (y .change0 ≡ moved (one || three && on) (x .change0))
+    × (y .change0 ≡ originateIf (one || three && on) (x .change0))
 unfolding changeOn
 controlled-by x true three five on e = (refl, refl, refl)
 controlled-by x false true five true e = (refl, refl, refl)
@@ -60,15 +56,15 @@ controlled-inner operation =
 
 -- the Change count moves exactly where it is said to
 abbrev pub Changes : (Phy → Phy) → (Phy → Bool) → Type 0
-Changes f moves = (x : Phy) → f x .change0 ≡ moved (moves x) (x .change0)
+Changes f moves = (x : Phy) → f x .change0 ≡ originateIf (moves x) (x .change0)
 
 pub event-changes : (source amount : ℕ) → Changes (eventOn source amount) (λ x. false)
 unfolding eventOn
 event-changes source amount x = refl
 
-pub change-changes : (enables : Bool → Bool) → Changes (λ x. changeOn (enables (x .enabled)) x) (λ x. true)
+pub change-changes : Changes (λ x. changeOn (x .enabled) x) (λ x. true)
 unfolding changeOn
-change-changes enables x = refl
+change-changes x = refl
 
 pub configured-changes : (frame : List ℕ) (d : ℕ) (clear : Bool) → Changes (configured frame d clear) (λ x. false)
 unfolding configured setOn clearOn

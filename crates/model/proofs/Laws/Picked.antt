@@ -10,7 +10,8 @@ use lib.ListN.{length, length-append}
 use Rattle.model.specs.Tests.{sumBelow, joinBelow}
 use Rattle.model.proofs.Laws.Bits.{tally}
 use Rattle.model.proofs.Laws.Join.{join-has, has-join, join-rising}
-use Rattle.model.proofs.Laws.Rising.{Rising, rising-one, rising-cond}
+use Rattle.model.proofs.Laws.Rising.{Rising, rising-one}
+use Rattle.model.proofs.Laws.Tests.{cond-both}
 
 -- something, or nothing, by a test
 abbrev pub onlyIf {ℓ} : {A : Type ℓ} → Bool → List A → List A
@@ -44,7 +45,7 @@ picked-rising n test =
     (λ p x h m.
     let e : x ≡ p = List·Memᴰ·eq-of-singleton (onlyIf-iff (test p) (p ∷ []) .0 m .1) in
     (omega arith, omega arith))
-    (λ p. rising-cond (λ q. q) (test p) (p ∷ []) [] (rising-one (λ q. q) p) tt)
+    (λ p. cond-both (Rising (λ q. q)) (test p) (p ∷ []) [] (rising-one (λ q. q) p) tt)
 
 pub picked-length : (n : ℕ) (test : ℕ → Bool) → length (picked n test) ≡ tally n test
 unfolding joinBelow sumBelow

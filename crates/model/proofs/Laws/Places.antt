@@ -2,7 +2,7 @@
 -- Assumes nothing.
 use Prim.Native.Nat.{ℕ, zero, suc, _<_}
 use native.Mathlib.Omega.{arith}
-use mathlib.Core.Path.{_≡_, refl, _∙_}
+use mathlib.Core.Path.{_≡_, refl, ap, _∙_}
 use mathlib.Core.List.{List, [], _∷_, map}
 use lib.ListN.{length, getD, set, take, drop, replicate}
 use lib.Seq.{sets, getD-set-other}
@@ -72,3 +72,9 @@ pub sets-before : {A : Type 0} (values xs : List A) (p i : ℕ) (d : A) → i < 
 sets-before [] xs p i d h = refl
 sets-before (v ∷ values) xs p i d h =
     sets-before values (set xs p v) (suc p) i d (omega arith) ∙ getD-set-other xs p i v d (λ e. omega arith)
+
+-- a change of every element goes through a store
+pub map-set : {A B : Type 0} (f : A → B) (xs : List A) (i : ℕ) (x : A) → map f (set xs i x) ≡ set (map f xs) i (f x)
+map-set f [] i x = refl
+map-set f (y ∷ xs) zero x = refl
+map-set f (y ∷ xs) (suc i) x = ap (λ ys. f y ∷ ys) (map-set f xs i x)

@@ -2,10 +2,8 @@
 use Prim.Native.Nat.{ℕ, _<_}
 use mathlib.Core.Path.{refl}
 use mathlib.Core.Logic.{⊎-elim}
-use mathlib.Core.Bool.{Bool, cond}
 use mathlib.Core.List.{List, [], _∷_, _++_, List·Memᴰ, List·Memᴰ·head, List·Memᴰ·tail, List·Memᴰ·append-cases}
 use mathlib.Core.List.{List·Memᴰ·not-nil}
-use Rattle.model.proofs.Laws.Tests.{cond-both}
 
 abbrev pub Rising : {A : Type 0} → (A → ℕ) → List A → Type 0
 Rising key [] = Unit {0}
@@ -24,7 +22,3 @@ module _ {A : Type 0} (key : A → ℕ) where
         ⊎-elim (λ mx. rx .0 y mx) (λ my. below x y (List·Memᴰ·head refl) my) (List·Memᴰ·append-cases xs m),
     rising-append xs ys (rx .1) ry (λ x′ y mx my. below x′ y (List·Memᴰ·tail mx) my),
   )
-
-  -- one of two rising lists
-  pub rising-cond : (b : Bool) (xs ys : List A) → Rising key xs → Rising key ys → Rising key (cond b xs ys)
-  rising-cond = cond-both (Rising key)

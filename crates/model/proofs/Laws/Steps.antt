@@ -2,28 +2,26 @@
 -- phy keeps, every operation keeps. Assumes nothing.
 use Prim.Native.Nat.{ℕ}
 use mathlib.Core.Path.{_≡_, refl, _∙_}
-use mathlib.Core.Bool.{Bool, true, false, not}
+use mathlib.Core.Bool.{Bool, true, false}
 use mathlib.Core.List.{List}
 use lib.Dec.{T}
 use lib.ListN.{length, length-set}
-use Rattle.model.specs.declared.House.the-variants.{NoSuchPhy}
 use Rattle.model.specs.declared.Phy.{Phy}
 use Rattle.model.specs.declared.Request.{Request}
 use Rattle.model.specs.declared.Request.the-variants.{ReportGeneral, ReportManufacturer, ReportBroadcast}
 use Rattle.model.specs.declared.Request.the-variants.{ReportPhyErrorLog, ReportPhyEvent, PhyControl, ConfigurePhyEvent}
 use Rattle.model.specs.declared.Shelf.{Shelf}
-use Rattle.model.specs.declared.Taken.the-variants.{Done, NotDone}
-use Rattle.model.specs.Counting.{eventOn, changeOn}
-use Rattle.model.specs.Reports.{eventTaken, event, linkChange, reducedFunctionality, sesNotice}
+use Rattle.model.specs.Counting.{originateIf, eventOn, changeOn}
+use Rattle.model.specs.Reach.{reaches}
+use Rattle.model.specs.Reports.{eventTaken, event, linkChangeTaken, linkChange, reducedFunctionality, sesNotice}
 use Rattle.model.specs.Request.{asked}
-use Rattle.model.specs.Results.{accepted, decide}
+use Rattle.model.specs.Results.{accepted, countRight, checkOperation, checkDescriptors, resultOf, decide}
 use Rattle.model.specs.Runs.{Operation, Ask, Event, LinkChange, ReducedFunctionality, Ses, QueryReach, next}
 use Rattle.model.specs.Shelf.{noPhy, exists, phyAt, put, putDevice}
-use Rattle.model.specs.Tests.{given}
 use Rattle.model.specs.Writes.{controlled, controlChanges, configured, effect}
-use Rattle.model.proofs.Laws.Checks.{outcome-taken, every-outcome, passed-91, passed-93}
+use Rattle.model.proofs.Laws.Checks.{outcome-taken, every-outcome, write-passed}
 use Rattle.model.proofs.Laws.Handled.{handled-all, accepted-decided}
-use Rattle.model.proofs.Laws.PhyChanges.{moved, event-inner, change-inner, configured-inner, controlled-inner}
+use Rattle.model.proofs.Laws.PhyChanges.{event-inner, change-inner, configured-inner, controlled-inner}
 use Rattle.model.proofs.Laws.Places.{change-at}
 use Rattle.model.proofs.Plain.Reports.{event-done, link-change-done}
 use Rattle.model.proofs.Plain.Shelf.{SameFixed, same-fixed, put-fixed, device-fixed}
@@ -31,9 +29,9 @@ use Rattle.model.proofs.Plain.Shelf.{SameFixed, same-fixed, put-fixed, 
 -- From s to t. A change of a phy is what becomes of the phy, and whether that moves the change count; each keeps what is asked.
 pub data Step (Keeps : (Phy → Phy) → (Phy → Bool) → Type 0) (s t : Shelf) : Type 0 where
   Stays : t ≡ s → Step Keeps s t
-  Moves : (p : ℕ) (f : Phy → Phy) (moves : Phy → Bool) → T (exists s p) → Keeps f moves
-      → t ≡ put s p (f (phyAt s p)) (moved (moves (phyAt s p)) (s .changes)) → Step Keeps s t
-  Notes : (a b : Bool) → t ≡ putDevice s (moved a (s .expander3)) (moved b (s .ses0)) → Step Keeps s t
+  ChangesPhy : (p : ℕ) (f : Phy → Phy) (moves : Phy → Bool) → T (exists s p) → Keeps f moves
+      → t ≡ put s p (f (phyAt s p)) (originateIf (moves (phyAt s p)) (s .changes)) → Step Keeps s t
+  CountsNotice : (a b : Bool) → t ≡ putDevice s (originateIf a (s .expander3)) (originateIf b (s .ses0)) → Step Keeps s t
 
 -- what is asked of the changes that an operation may make
 abbrev pub KeptBy : ((Phy → Phy) → (Phy → Bool) → Type 0) → Operation → Type 0
@@ -49,16 +47,18 @@ KeptBy Keeps (QueryReach g) = Unit {0}
 module _ (Keeps : (Phy → Phy) → (Phy → Bool) → Type 0) (s : Shelf) where
   effect-step : (g : ℕ) (frame out : List ℕ) (request : Request) → KeptBy Keeps (Ask g frame out)
       → accepted (decide s g frame request) ≡ true → Step Keeps s (effect s frame request)
-  unfolding effect
+  unfolding effect decide resultOf
   effect-step g frame out ReportGeneral keeps e = Stays refl
   effect-step g frame out ReportManufacturer keeps e = Stays refl
   effect-step g frame out (ReportBroadcast kind) keeps e = Stays refl
   effect-step g frame out (ReportPhyErrorLog p) keeps e = Stays refl
   effect-step g frame out (ReportPhyEvent p) keeps e = Stays refl
   effect-step g frame out (PhyControl expected p operation) keeps e =
-      Moves p (controlled operation) (controlChanges operation) (rw (passed-91 s g frame expected p operation e .0) tt) (keeps .0 operation) refl
+      let there = write-passed (countRight (s .changes) expected) (exists s p) (reaches s g p) (checkOperation operation) e .0 in
+      ChangesPhy p (controlled operation) (controlChanges operation) (rw there tt) (keeps .0 operation) refl
   effect-step g frame out (ConfigurePhyEvent expected clear p d) keeps e =
-      Moves p (configured frame d clear) (λ x. false) (rw (passed-93 s g frame expected p d clear e .0) tt) (keeps .1 d clear) refl
+      let there = write-passed (countRight (s .changes) expected) (exists s p) (reaches s g p) (checkDescriptors frame d) e .0 in
+      ChangesPhy p (configured frame d clear) (λ x. false) (rw there tt) (keeps .1 d clear) refl
 
   pub next-step : (operation : Operation) → KeptBy Keeps operation → Step Keeps s (next s operation)
   unfolding next event linkChange reducedFunctionality sesNotice
@@ -67,43 +67,43 @@ module _ (Keeps : (Phy → Phy) → (Phy → Bool) → Type 0) (s : Shelf) where
       (λ e. effect-step g frame out (asked frame) keeps (accepted-decided s g frame e .2))
   next-step (Event p source amount) keeps =
       every-outcome (Step Keeps s) (eventTaken (exists s p) source amount) s _ (Stays refl)
-      (λ done. Moves p (eventOn source amount) (λ x. false) (event-done s p source amount .0 done .phy-exists) keeps refl)
+      (λ done. ChangesPhy p (eventOn source amount) (λ x. false) (event-done s p source amount .0 done .phy-exists) keeps refl)
   next-step (LinkChange p) keeps =
-      every-outcome (Step Keeps s) (given (not (exists s p)) (NotDone NoSuchPhy) Done) s _ (Stays refl)
+      every-outcome (Step Keeps s) (linkChangeTaken (exists s p)) s _ (Stays refl)
       (λ done.
-      Moves p (λ x. changeOn (x .enabled) x) (λ x. true) (link-change-done s p .0 (outcome-taken _ s _ ∙ done)) keeps refl)
-  next-step ReducedFunctionality keeps = Notes true false refl
-  next-step Ses keeps = Notes false true refl
+      ChangesPhy p (λ x. changeOn (x .enabled) x) (λ x. true) (link-change-done s p .0 (outcome-taken _ s _ ∙ done)) keeps refl)
+  next-step ReducedFunctionality keeps = CountsNotice true false refl
+  next-step Ses keeps = CountsNotice false true refl
   next-step (QueryReach g) keeps = Stays refl
 
 -- What no step changes: the phy number, the table and the identifier.
 pub step-fixed : (Keeps : (Phy → Phy) → (Phy → Bool) → Type 0) (s t : Shelf) → Step Keeps s t → SameFixed s t
 step-fixed Keeps s t (Stays e) = rw e (same-fixed s)
-step-fixed Keeps s t (Moves p f moves there keeps e) =
-    rw e (put-fixed s p (f (phyAt s p)) (moved (moves (phyAt s p)) (s .changes)))
-step-fixed Keeps s t (Notes a b e) = rw e (device-fixed s (moved a (s .expander3)) (moved b (s .ses0)))
+step-fixed Keeps s t (ChangesPhy p f moves there keeps e) =
+    rw e (put-fixed s p (f (phyAt s p)) (originateIf (moves (phyAt s p)) (s .changes)))
+step-fixed Keeps s t (CountsNotice a b e) = rw e (device-fixed s (originateIf a (s .expander3)) (originateIf b (s .ses0)))
 
 -- What holds between a phy and itself, and still after each change, holds between each phy before the step and after it.
 pub step-phys : (Keeps : (Phy → Phy) → (Phy → Bool) → Type 0) (R : Phy → Phy → Type 0) → ((x : Phy) → R x x)
     → ((f : Phy → Phy) (moves : Phy → Bool) → Keeps f moves → (x y : Phy) → R x y → R x (f y))
     → (s t : Shelf) → Step Keeps s t → (q : ℕ) → R (phyAt s q) (phyAt t q)
 step-phys Keeps R same on s t (Stays e) q = rw e (same (phyAt s q))
-step-phys Keeps R same on s t (Moves p f moves there keeps e) q =
+step-phys Keeps R same on s t (ChangesPhy p f moves there keeps e) q =
     let x : Phy = phyAt s q in
     rw e (change-at (R x) noPhy f (on f moves keeps x) (s .phys) p q (same x))
-step-phys Keeps R same on s t (Notes a b e) q = rw e (same (phyAt s q))
+step-phys Keeps R same on s t (CountsNotice a b e) q = rw e (same (phyAt s q))
 
 -- There are as many phys as before, and each device wide count is originated, or not.
 pub record Counts (s t : Shelf) : Type 0 where
   pub size : length (t .phys) ≡ length (s .phys)
-  pub changes : (b : Bool) × (t .changes ≡ moved b (s .changes))
-  pub expander3 : (b : Bool) × (t .expander3 ≡ moved b (s .expander3))
-  pub ses0 : (b : Bool) × (t .ses0 ≡ moved b (s .ses0))
+  pub changes : (b : Bool) × (t .changes ≡ originateIf b (s .changes))
+  pub expander3 : (b : Bool) × (t .expander3 ≡ originateIf b (s .expander3))
+  pub ses0 : (b : Bool) × (t .ses0 ≡ originateIf b (s .ses0))
 
 pub step-counts : (Keeps : (Phy → Phy) → (Phy → Bool) → Type 0) (s t : Shelf) → Step Keeps s t → Counts s t
 step-counts Keeps s t (Stays e) =
     rw e (record { size = refl; changes = (false, refl); expander3 = (false, refl); ses0 = (false, refl) })
-step-counts Keeps s t (Moves p f moves there keeps e) =
+step-counts Keeps s t (ChangesPhy p f moves there keeps e) =
     rw e
     (record {
       size = length-set (s .phys) p (f (phyAt s p));
@@ -111,7 +111,7 @@ step-counts Keeps s t (Moves p f moves there keeps e) =
       expander3 = (false, refl);
       ses0 = (false, refl);
     })
-step-counts Keeps s t (Notes a b e) =
+step-counts Keeps s t (CountsNotice a b e) =
     rw e (record { size = refl; changes = (false, refl); expander3 = (a, refl); ses0 = (b, refl) })
 
 -- ---- So who reaches what stays as it was, all through a run.
@@ -142,7 +142,7 @@ group-kept : (operation : Operation) → KeptBy KeepsGroup operation
 group-kept (Ask g frame out) =
     (λ operation. controlled-inner operation .group, λ d clear. configured-inner frame d clear .group)
 group-kept (Event p source amount) = event-inner source amount .group
-group-kept (LinkChange p) = change-inner (λ b. b) .group
+group-kept (LinkChange p) = change-inner .group
 group-kept ReducedFunctionality = tt
 group-kept Ses = tt
 group-kept (QueryReach g) = tt

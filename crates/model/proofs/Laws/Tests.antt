@@ -1,9 +1,9 @@
 -- Laws of the small words of `specs/Tests`: when each holds, in plain logic. Assumes nothing.
 use Prim.Native.Nat.{ℕ, zero, suc, _≤_, _<_}
-use native.Mathlib.Nat.{not-suc-le-zero, not-le-of-lt, le-of-suc-le-suc, eq-or-lt-of-le}
+use native.Mathlib.Nat.{not-suc-le-zero, not-le-of-lt, lt-of-not-le, le-of-suc-le-suc, eq-or-lt-of-le}
 use native.Mathlib.Omega.{arith}
 use mathlib.Core.Path.{_≡_, refl, subst⁻¹}
-use mathlib.Core.Logic.{_↔_, _⊎_, inl, inr, ⊎-elim, Iff·trans, Iff·symm, Iff·and}
+use mathlib.Core.Logic.{_↔_, _⊎_, inl, inr, ⊎-elim, Iff·trans, Iff·symm, Iff·and, Iff·not}
 use mathlib.Core.Bool.{Bool, true, false, not, cond, _&&_, _||_, Bool·beq, or-assoc, true≢false, false≢true}
 use mathlib.Core.List.{List, [], _∷_, List·Memᴰ, List·Memᴰ·head, List·Memᴰ·tail, List·Memᴰ·cases-cons}
 use mathlib.Core.List.{List·Memᴰ·not-nil}
@@ -44,20 +44,17 @@ pub is-false : (a : Bool) → (T a → ⊥) → a ≡ false
 is-false true no-a = absurd (no-a tt)
 is-false false no-a = refl
 
-pub not-false : (a : Bool) → (a ≡ false → ⊥) → a ≡ true
-not-false true other = refl
-not-false false other = absurd (other refl)
-
 -- the denial of a test, from what the test says
 pub denied-iff : (a : Bool) {A : Type 0} → T a ↔ A → T (not a) ↔ (A → ⊥)
 denied-iff a f = (λ t x. T-not a t (f .1 x), λ no-a. not-T a (λ t. no-a (f .0 t)))
 
--- that a test fails, from what it says: by itself, and where it is asked only under a condition
-pub fails-iff : (a : Bool) {A : Type 0} → T a ↔ A → (T a → ⊥) ↔ (A → ⊥)
-fails-iff a f = (λ no-t x. no-t (f .1 x), λ no-a t. no-a (f .0 t))
+-- .. and that the denial is false, exactly if what the test says holds
+pub unless-iff : (a : Bool) {A : Type 0} → T a ↔ A → (T (not a) → ⊥) ↔ A
+unless-iff a f = Iff·trans (not-not-iff a) f
 
+-- that a test fails which is asked only under a condition, from what both say
 pub fails-under-iff : (m a : Bool) {M A : Type 0} → T m ↔ M → T a ↔ A → (T (not m || a) → ⊥) ↔ (M × (A → ⊥))
-fails-under-iff true a f g = (λ no-t. (f .0 tt, fails-iff a g .0 no-t), λ h. fails-iff a g .1 (h .1))
+fails-under-iff true a f g = (λ no-t. (f .0 tt, Iff·not g .0 no-t), λ h. Iff·not g .1 (h .1))
 fails-under-iff false a f g = (λ no-t. absurd (no-t tt), λ h. absurd (f .1 (h .0)))
 
 -- a test of several parts, from what each part says
@@ -84,11 +81,6 @@ pub one-of-three-iff : (a b c : Bool) {A B C : Type 0}
     → T a ↔ A → T b ↔ B → T c ↔ C → T (a || b || c) ↔ (A ⊎ B ⊎ C)
 one-of-three-iff a b c f g h = rw or-assoc (either-iff a (b || c) f (either-iff b c g h))
 
--- what a test chooses: the one thing where it holds, and the other where it does not
-pub cond-iff : {A : Type 0} (b : Bool) (z x y : A) → (z ≡ cond b x y) ↔ ((T b → z ≡ x) × ((T b → ⊥) → z ≡ y))
-cond-iff true z x y = (λ e. (λ t. e, λ f. absurd (f tt)), λ h. h .0 tt)
-cond-iff false z x y = (λ e. (λ t. absurd t, λ f. e), λ h. h .1 (λ t. t))
-
 -- ---- numbers
 
 pub leb-iff : (m n : ℕ) → T (leb m n) ↔ (m ≤ n)
@@ -109,6 +101,10 @@ within-true low high n e = within-iff low high n .0 (rw e tt)
 -- not at most is above
 pub above-iff : (m n : ℕ) → T (not (leb m n)) ↔ (n < m)
 above-iff m n = (nleb→lt m n, λ h. not-T (leb m n) (λ t. not-le-of-lt h (leb→le m n t)))
+
+-- not below is at most
+pub not-above : {m n : ℕ} → (m < n → ⊥) → n ≤ m
+not-above h = le-of-suc-le-suc (lt-of-not-le h)
 
 -- ---- one of a list
 
@@ -172,11 +168,6 @@ some-below-iff n test = (
 
 -- ---- the first failure decides
 
--- a check with the same on both sides
-pub check-same : {A : Type 0} (b : Bool) (x : A) → check b x x ≡ x
-check-same true x = refl
-check-same false x = refl
-
 -- what is made of the outcome of a check
 pub check-map : {A B : Type 0} (f : A → B) (b : Bool) (failure rest : A)
     → f (check b failure rest) ≡ check b (f failure) (f rest)
@@ -184,6 +175,11 @@ check-map f true failure rest = refl
 check-map f false failure rest = refl
 
 -- ---- whichever way a test comes out
+
+-- what a test chooses: the one thing where it holds, and the other where it does not
+pub cond-iff : {A : Type 0} (b : Bool) (z x y : A) → (z ≡ cond b x y) ↔ ((T b → z ≡ x) × ((T b → ⊥) → z ≡ y))
+cond-iff true z x y = (λ e. (λ t. e, λ f. absurd (f tt)), λ h. h .0 tt)
+cond-iff false z x y = (λ e. (λ t. absurd t, λ f. e), λ h. h .1 (λ t. t))
 
 -- what holds of the one where the test holds, and of the other where it does not, holds of the one that is chosen
 pub cond-by : {A : Type 0} (P : A → Type 0) (b : Bool) (x y : A) → (b ≡ true → P x) → (b ≡ false → P y)

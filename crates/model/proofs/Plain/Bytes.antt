@@ -1,14 +1,9 @@
 -- "Numbers on the wire are big-endian": the most significant byte comes first, in reading and in writing. Assumes nothing.
-use Prim.Native.Nat.{ℕ, _+_, _*_, _/_, _%_, _≤_, _<_}
+use Prim.Native.Nat.{ℕ, _+_, _*_, _/_, _%_, _<_}
 use native.Mathlib.Omega.{arith}
 use mathlib.Core.Path.{_≡_, refl}
 use mathlib.Core.List.{List, [], _∷_}
-use lib.ListN.{length, List·getD-eq-default}
-use Rattle.model.specs.Bytes.{byte, word, dword, two, four}
-
--- past the end of a frame stands 0
-pub byte-past : (frame : List ℕ) (i : ℕ) → length frame ≤ i → byte frame i ≡ 0x00
-byte-past frame i h = List·getD-eq-default frame 0x00 h
+use Rattle.model.specs.Bytes.{word, dword, two, four}
 
 -- reading two and four bytes
 pub word-reads : (a b : ℕ) (rest : List ℕ) → word (a ∷ b ∷ rest) 0 ≡ a * 0x100 + b

@@ -3,7 +3,7 @@ use Prim.Native.Nat.{ℕ, _+_, _-_, _^_, _≤_, _<_}
 use native.Mathlib.Nat.{mod-eq-of-lt, eq-or-lt-of-le}
 use native.Mathlib.Omega.{arith}
 use mathlib.Core.Path.{_≡_, refl, ap, _∙_}
-use mathlib.Core.Logic.{_↔_, ⊎-elim}
+use mathlib.Core.Logic.{_↔_, ⊎-elim, Iff·rfl}
 use borrow.Author.Tests.{ne-eqb}
 use lib.Dec.{T, leb, ltb}
 use Rattle.model.specs.declared.Monitor.{Monitor}
@@ -52,7 +52,7 @@ pub crosses-iff : (before : Monitor) (after : ℕ)
 unfolding crosses
 crosses-iff before after =
     all-three-iff (peak (before .source)) (ltb (before .value) (before .threshold)) (leb (before .threshold) after)
-    (λ t. t, λ t. t)
+    Iff·rfl
     (ltb-iff (before .value) (before .threshold))
     (leb-iff (before .threshold) after)
 

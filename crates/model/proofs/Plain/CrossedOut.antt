@@ -1,7 +1,7 @@
 -- What is crossed out for a group, in plain logic. Assumes nothing.
 use Prim.Native.Nat.{ℕ, _≤_}
 use mathlib.Core.Path.{_≡_}
-use mathlib.Core.Logic.{_↔_, Iff·trans}
+use mathlib.Core.Logic.{_↔_, Iff·rfl, Iff·trans}
 use mathlib.Core.Bool.{not, _&&_}
 use mathlib.Core.List.{List, [], _∷_, List·Memᴰ}
 use lib.Dec.{T, leb, eqb}
@@ -15,28 +15,29 @@ use Rattle.model.specs.Runs.{Ask, Event}
 use Rattle.model.specs.Shelf.{exists}
 use Rattle.model.specs.Tests.{oneOf}
 use Rattle.model.proofs.Laws.Tests.{denied-iff, both-iff, all-three-iff, leb-iff, eqb-iff, oneOf-iff}
+use Rattle.model.proofs.Plain.Request.{phyFunctions}
 
 -- "a request is about a phy when its function is 11h, 14h, 91h or 93h, it has at least 12 bytes and byte 9 names an existing phy"
-abbrev pub About : Shelf → List ℕ → Type 0
-About s frame =
-    List·Memᴰ (functionOf frame) (0x11 ∷ 0x14 ∷ 0x91 ∷ 0x93 ∷ []) × (12 ≤ length frame) × T (exists s (byte frame 9))
+abbrev pub AboutPhy : Shelf → List ℕ → Type 0
+AboutPhy s frame =
+    List·Memᴰ (functionOf frame) phyFunctions × (12 ≤ length frame) × T (exists s (byte frame 9))
 
-pub about-iff : (s : Shelf) (frame : List ℕ) → T (aboutPhy s frame) ↔ About s frame
+pub about-iff : (s : Shelf) (frame : List ℕ) → T (aboutPhy s frame) ↔ AboutPhy s frame
 unfolding aboutPhy
 about-iff s frame =
-    all-three-iff (oneOf (0x11 ∷ 0x14 ∷ 0x91 ∷ 0x93 ∷ []) (functionOf frame)) (leb 12 (length frame)) (exists s (byte frame 9))
-    (oneOf-iff (0x11 ∷ 0x14 ∷ 0x91 ∷ 0x93 ∷ []) (functionOf frame))
+    all-three-iff (oneOf phyFunctions (functionOf frame)) (leb 12 (length frame)) (exists s (byte frame 9))
+    (oneOf-iff phyFunctions (functionOf frame))
     (leb-iff 12 (length frame))
-    (λ t. t, λ t. t)
+    Iff·rfl
 
 -- "a link reset or disable is such a 91h with byte 10 at 01h or 03h"
-abbrev pub LinkControl : Shelf → List ℕ → Type 0
-LinkControl s frame =
-    About s frame × (functionOf frame ≡ 0x91) × List·Memᴰ (byte frame 10) (0x01 ∷ 0x03 ∷ [])
+abbrev pub LinkResetOrDisable : Shelf → List ℕ → Type 0
+LinkResetOrDisable s frame =
+    AboutPhy s frame × (functionOf frame ≡ 0x91) × List·Memᴰ (byte frame 10) (0x01 ∷ 0x03 ∷ [])
 
-pub link-control-iff : (s : Shelf) (frame : List ℕ) → T (linkResetOrDisable s frame) ↔ LinkControl s frame
+pub link-reset-or-disable-iff : (s : Shelf) (frame : List ℕ) → T (linkResetOrDisable s frame) ↔ LinkResetOrDisable s frame
 unfolding linkResetOrDisable
-link-control-iff s frame =
+link-reset-or-disable-iff s frame =
     all-three-iff (aboutPhy s frame) (eqb (functionOf frame) 0x91) (oneOf (0x01 ∷ 0x03 ∷ []) (byte frame 10))
     (about-iff s frame)
     (eqb-iff (functionOf frame) 0x91)
@@ -45,9 +46,9 @@ link-control-iff s frame =
 -- "other groups' requests about phys it can't reach, save link resets and disables"
 pub record CrossedRequest (g : ℕ) (s : Shelf) (h : ℕ) (frame : List ℕ) : Type 0 where
   pub of-another : h ≡ g → ⊥
-  pub about : About s frame
+  pub about : AboutPhy s frame
   pub unreached : T (reaches s g (byte frame 9)) → ⊥
-  pub no-link-control : LinkControl s frame → ⊥
+  pub no-reset-or-disable : LinkResetOrDisable s frame → ⊥
 
 pub crossed-request-iff : (g : ℕ) (s : Shelf) (h : ℕ) (frame out : List ℕ)
     → T (crossedOut g s (Ask h frame out))
@@ -61,10 +62,10 @@ crossed-request-iff g s h frame out =
     (all-three-iff (not (eqb h g)) (aboutPhy s frame) (not (reaches s g (byte frame 9)))
     (denied-iff (eqb h g) (eqb-iff h g))
     (about-iff s frame)
-    (denied-iff (reaches s g (byte frame 9)) (λ t. t, λ t. t)))
-    (denied-iff (linkResetOrDisable s frame) (link-control-iff s frame))) (
-      λ c. record { of-another = c .0 .0; about = c .0 .1; unreached = c .0 .2; no-link-control = c .1 },
-      λ r. ((r .of-another, r .about, r .unreached), r .no-link-control),
+    (denied-iff (reaches s g (byte frame 9)) Iff·rfl))
+    (denied-iff (linkResetOrDisable s frame) (link-reset-or-disable-iff s frame))) (
+      λ c. record { of-another = c .0 .0; about = c .0 .1; unreached = c .0 .2; no-reset-or-disable = c .1 },
+      λ r. ((r .of-another, r .about, r .unreached), r .no-reset-or-disable),
     )
 
 -- "reports of events on such phys, save link changes"
@@ -73,4 +74,4 @@ pub crossed-event-iff : (g : ℕ) (s : Shelf) (p source amount : ℕ)
     ↔ (T (exists s p) × (T (reaches s g p) → ⊥))
 unfolding crossedOut
 crossed-event-iff g s p source amount =
-    both-iff (exists s p) (not (reaches s g p)) (λ t. t, λ t. t) (denied-iff (reaches s g p) (λ t. t, λ t. t))
+    both-iff (exists s p) (not (reaches s g p)) Iff·rfl (denied-iff (reaches s g p) Iff·rfl)

@@ -1,5 +1,5 @@
 -- What 06h lists, in plain logic: "Every non-zero count of that type that the source may see is listed: FFh first, then phys
--- rising, then reason rising. A source sees FFh and the phys it reaches." Assumes nothing.
+-- rising, then reason rising. A source sees FFh and the phys it reaches." And how long the descriptors of 06h and 14h are. Assumes nothing.
 use Prim.Native.Nat.{ℕ, suc, _+_, _*_, _≤_, _<_}
 use native.Mathlib.Omega.{arith}
 use mathlib.Core.Path.{_≡_, refl, ap, subst⁻¹}
@@ -14,14 +14,15 @@ use Rattle.model.specs.declared.Monitor.{Monitor}
 use Rattle.model.specs.declared.Phy.{Phy}
 use Rattle.model.specs.declared.Shelf.{Shelf}
 use Rattle.model.specs.Reach.{reaches}
-use Rattle.model.specs.Reply.{Broadcast, eventDescriptor, broadcastBytes, listed, deviceListed, phyListed}
-use Rattle.model.specs.Reply.{broadcasts}
+use Rattle.model.specs.Reply.{Broadcast, eventDescriptor, broadcastBytes, entry, listed, deviceListed, phyListed}
+use Rattle.model.specs.Reply.{seenListed, broadcasts}
 use Rattle.model.specs.Shelf.{phyNumber, exists, phyAt}
 use Rattle.model.specs.Tests.{joinBelow}
+use Rattle.model.specs.Zone.{row}
 use Rattle.model.proofs.Laws.Join.{join-has, has-join, join-rising}
-use Rattle.model.proofs.Laws.Picked.{onlyIf, onlyIf-iff}
-use Rattle.model.proofs.Laws.Rising.{Rising, rising-one, rising-append, rising-cond}
-use Rattle.model.proofs.Laws.Tests.{ltb-iff}
+use Rattle.model.proofs.Laws.Picked.{onlyIf-iff}
+use Rattle.model.proofs.Laws.Rising.{Rising, rising-one, rising-append}
+use Rattle.model.proofs.Laws.Tests.{ltb-iff, cond-both}
 
 -- "descriptors of 12 bytes" (14h) and "of 8 bytes" (06h)
 pub event-descriptor-length : (m : Monitor) → length (eventDescriptor m) ≡ 12
@@ -31,9 +32,6 @@ pub broadcast-bytes-length : (bs : List Broadcast) → length (broadcastBytes bs
 unfolding broadcastBytes
 broadcast-bytes-length [] = refl
 broadcast-bytes-length (b ∷ bs) = omega (arith, broadcast-bytes-length bs)
-
-abbrev pub entry : ℕ → ℕ → ℕ → Broadcast
-entry p r n = record { phy = p; reason = r; count = n }
 
 -- The broadcast counts that a shelf keeps, each under its type, its phy or FFh, and its reason: "Per phy: .. Change reason 0h,
 -- Expander 1h and 2h", "Device wide: .. Expander 3h (reduced functionality) and SES 0h". Change is type 0h, SES 3h, Expander 4h.
@@ -124,8 +122,8 @@ phy-has s kind q p r n there m =
     (chosen kind 0x0 (listed q 0x0 (phyAt s q .change0)) (cond (eqb kind 0x4) (first ++ second) []) m)
 
 -- what one phy gives to a source
-abbrev ofPhy : Shelf → ℕ → ℕ → ℕ → List Broadcast
-ofPhy s g kind p = onlyIf (reaches s g p) (phyListed kind p (phyAt s p))
+abbrev pub ofPhy : Shelf → ℕ → ℕ → ℕ → List Broadcast
+ofPhy s g kind p = seenListed (row (s .table) g) kind p (phyAt s p)
 
 broadcasts-has : (s : Shelf) (g kind p r n : ℕ) → List·Memᴰ (entry p r n) (broadcasts s g kind)
     → Kept s kind p r n × Sees s g p × (n ≡ 0 → ⊥)
@@ -211,13 +209,13 @@ place-phy : (b : Broadcast) → b .phy < 24 → place b ≡ 4 * suc (b .phy) + b
 place-phy b h = rw (ne-eqb (b .phy) 0xFF (λ e. omega arith))
 
 rising-listed : (p r n : ℕ) → Rising place (listed p r n)
-rising-listed p r n = rising-cond place (eqb n 0) [] (entry p r n ∷ []) tt (rising-one place (entry p r n))
+rising-listed p r n = cond-both (Rising place) (eqb n 0) [] (entry p r n ∷ []) tt (rising-one place (entry p r n))
 
 rising-device : (s : Shelf) (kind : ℕ) → Rising place (deviceListed kind (s .expander3) (s .ses0))
 unfolding deviceListed
 rising-device s kind =
-    rising-cond place (eqb kind 0x3) _ _ (rising-listed 0xFF 0x0 (s .ses0))
-    (rising-cond place (eqb kind 0x4) _ _ (rising-listed 0xFF 0x3 (s .expander3)) tt)
+    cond-both (Rising place) (eqb kind 0x3) _ _ (rising-listed 0xFF 0x0 (s .ses0))
+    (cond-both (Rising place) (eqb kind 0x4) _ _ (rising-listed 0xFF 0x3 (s .expander3)) tt)
 
 -- of one phy, the lower reason comes first
 place-reason : (b c : Broadcast) → b .phy ≡ c .phy → b .reason < c .reason → place b < place c
@@ -233,8 +231,8 @@ unfolding phyListed
 rising-phy kind p x =
     let first : List Broadcast = listed p 0x1 (x .expander1) in
     let second : List Broadcast = listed p 0x2 (x .expander2) in
-    rising-cond place (eqb kind 0x0) _ _ (rising-listed p 0x0 (x .change0))
-    (rising-cond place (eqb kind 0x4) _ _
+    cond-both (Rising place) (eqb kind 0x0) _ _ (rising-listed p 0x0 (x .change0))
+    (cond-both (Rising place) (eqb kind 0x4) _ _
     (rising-append place first second (rising-listed p 0x1 (x .expander1)) (rising-listed p 0x2 (x .expander2))
     (λ b c mb mc.
     let (_, bp, br, _) = listed-has (b .phy) (b .reason) (b .count) p 0x1 (x .expander1) mb in
@@ -258,7 +256,7 @@ listed-rising s g kind =
     rising-append place (deviceListed kind (s .expander3) (s .ses0)) (joinBelow (phyNumber s) (ofPhy s g kind)) (rising-device s kind)
     (join-rising place (ofPhy s g kind) (λ p. 4 * suc p) (λ p. omega arith) (phyNumber s)
     (λ p b h m. phy-places s g kind p b h m)
-    (λ p. rising-cond place (reaches s g p) (phyListed kind p (phyAt s p)) [] (rising-phy kind p (phyAt s p)) tt))
+    (λ p. cond-both (Rising place) (reaches s g p) (phyListed kind p (phyAt s p)) [] (rising-phy kind p (phyAt s p)) tt))
     (λ b c mb mc.
     let (ff, due) = device-has s kind (b .phy) (b .reason) (b .count) mb in
     let small : b .reason < 4 = kept-small s kind (b .phy) (b .reason) (b .count) (due .0) .1 in

@@ -1,21 +1,21 @@
 -- When a report is accepted, in plain logic. Assumes nothing.
 use Prim.Native.Nat.{ℕ, _≤_, _<_}
-use native.Mathlib.Nat.{not-le-of-lt, le-of-suc-le-suc, lt-of-not-le}
+use native.Mathlib.Nat.{not-le-of-lt}
 use native.Mathlib.Omega.{arith}
 use mathlib.Core.Path.{_≡_, subst}
 use mathlib.Core.Logic.{_↔_, _⊎_, inl, inr, ⊎-elim, Iff·trans}
-use mathlib.Core.Bool.{not, _&&_, _||_}
-use mathlib.Core.List.{[], _∷_}
+use mathlib.Core.Bool.{Bool, not, _&&_, _||_}
+use mathlib.Core.List.{List, [], _∷_}
 use lib.Dec.{T, ltb, eqb, T-not}
 use Rattle.model.specs.declared.Shelf.{Shelf}
 use Rattle.model.specs.declared.Taken.the-variants.{Done}
 use Rattle.model.specs.House.{takenNumber}
-use Rattle.model.specs.Reports.{amountTooLarge, eventTaken, linkChange}
+use Rattle.model.specs.Reports.{amountTooLarge, eventTaken, linkChangeTaken, linkChange}
 use Rattle.model.specs.Shelf.{exists}
 use Rattle.model.specs.Sources.{supported}
 use Rattle.model.proofs.Laws.Checks.{done-iff, outcome-taken}
-use Rattle.model.proofs.Laws.Lowest.{none-given}
-use Rattle.model.proofs.Laws.Tests.{both-iff, either-iff, or-iff, not-not-iff, eqb-iff, ltb-iff, check-map}
+use Rattle.model.proofs.Laws.Lowest.{firstGiven, none-given}
+use Rattle.model.proofs.Laws.Tests.{both-iff, either-iff, or-iff, not-not-iff, eqb-iff, ltb-iff, not-above, check-map}
 use Rattle.model.proofs.Plain.Sources.{zero-unsupported}
 
 -- H9: "amount above FFh for 2Bh, or above FFFFh for 2Ch"
@@ -44,9 +44,6 @@ source-iff source = (
       (or-iff (eqb source 0x00) (not (supported source)) .0 bad),
 )
 
-not-above : {m n : ℕ} → (m < n → ⊥) → n ≤ m
-not-above h = le-of-suc-le-suc (lt-of-not-le h)
-
 amounts-iff : (source amount : ℕ)
     → (T (amountTooLarge source amount) → ⊥)
     ↔ ((source ≡ 0x2B → amount ≤ 0xFF) × (source ≡ 0x2C → amount ≤ 0xFFFF))
@@ -61,18 +58,26 @@ amounts-iff source amount = (
       (amount-iff source amount .0 t),
 )
 
+-- what an event report and a link change are told, as the first of these tests that holds
+abbrev pub eventTests : Shelf → ℕ → ℕ → ℕ → List Bool
+eventTests s p source amount =
+    not (exists s p) ∷ (eqb source 0x00 || not (supported source)) ∷ amountTooLarge source amount ∷ []
+
+pub event-number : (s : Shelf) (p source amount : ℕ)
+    → takenNumber (eventTaken (exists s p) source amount) ≡ firstGiven (eventTests s p source amount) 7
+unfolding eventTaken
+event-number s p source amount = simp (check-map takenNumber)
+
+pub link-change-number : (there : Bool) → takenNumber (linkChangeTaken there) ≡ firstGiven (not there ∷ []) 7
+link-change-number there = simp (check-map takenNumber)
+
 pub event-done : (s : Shelf) (p source amount : ℕ)
     → (eventTaken (exists s p) source amount ≡ Done)
     ↔ Reportable s p source amount
-unfolding eventTaken
 event-done s p source amount =
     Iff·trans (done-iff (eventTaken (exists s p) source amount))
-    (simp (check-map takenNumber)
-    (Iff·trans
-    (none-given
-    (not (exists s p) ∷ (eqb source 0x00 || not (supported source)) ∷ amountTooLarge source amount ∷ [])
-    7
-    (omega arith)) (
+    (rw (event-number s p source amount)
+    (Iff·trans (none-given (eventTests s p source amount) 7 (omega arith)) (
       λ h.
           let (fits-2B, fits-2C) = amounts-iff source amount .0 (h .1 .1 .0) in
           record {
@@ -95,7 +100,6 @@ pub link-change-done : (s : Shelf) (p : ℕ) → (linkChange s p .taken ≡ Done
 unfolding linkChange
 link-change-done s p =
     Iff·trans (done-iff (linkChange s p .taken))
-    (rw outcome-taken
-    (simp (check-map takenNumber)
+    (rw (outcome-taken, link-change-number (exists s p))
     (Iff·trans (none-given (not (exists s p) ∷ []) 7 (omega arith))
-    (λ h. not-not-iff (exists s p) .0 (h .0), λ t. (not-not-iff (exists s p) .1 t, tt)))))
+    (λ h. not-not-iff (exists s p) .0 (h .0), λ t. (not-not-iff (exists s p) .1 t, tt))))

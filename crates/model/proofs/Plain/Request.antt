@@ -1,10 +1,10 @@
--- When a frame is bad, of a known function and of a right length, and which descriptor is the first unsupported one,
--- in plain logic. Assumes nothing.
+-- When a frame is bad, of a known function and of a right length, what is asked, by the function, and which descriptor is the first
+-- unsupported one, in plain logic. Assumes nothing.
 use Prim.Native.Nat.{ℕ, zero, suc, _+_, _*_, _≤_, _<_, zero-le}
 use native.Mathlib.Nat.{eq-or-lt-of-le, not-le-of-lt}
 use native.Mathlib.Omega.{arith}
 use mathlib.Core.Path.{_≡_, refl, subst}
-use mathlib.Core.Logic.{_↔_, _⊎_, ⊎-elim}
+use mathlib.Core.Logic.{_↔_, _⊎_, ⊎-elim, Iff·rfl}
 use mathlib.Core.Bool.{Bool, true, false, not, cond, _&&_, _||_, or-assoc, or-false}
 use mathlib.Core.List.{List, [], _∷_, List·Memᴰ}
 use lib.Dec.{T, ltb, eqb}
@@ -14,11 +14,10 @@ use Rattle.model.specs.declared.Request.the-variants.{ReportGeneral, Rep
 use Rattle.model.specs.declared.Request.the-variants.{ReportPhyErrorLog, ReportPhyEvent, PhyControl}
 use Rattle.model.specs.declared.Request.the-variants.{ConfigurePhyEvent}
 use Rattle.model.specs.Bytes.{byte, word}
-use Rattle.model.specs.Request.{badFrame, functionOf, known, shaped, lengthRight, asked, descriptorSource, allowed}
+use Rattle.model.specs.Request.{badFrame, functionOf, known, shaped, lengthRight, clears, asked, descriptorSource, allowed}
 use Rattle.model.specs.Request.{firstUnsupported}
 use Rattle.model.specs.Sources.{supported}
 use Rattle.model.specs.Tests.{oneOf}
-use Rattle.model.specs.Zone.{bit}
 use Rattle.model.proofs.Laws.Tests.{denied-iff, both-iff, all-three-iff, either-iff, ltb-iff, eqb-iff, oneOf-iff, by-each}
 
 -- H6: under four bytes, or the first is not 40h
@@ -28,12 +27,19 @@ bad-frame frame =
     either-iff (ltb (length frame) 4) (not (eqb (byte frame 0) 0x40)) (ltb-iff (length frame) 4)
     (denied-iff (eqb (byte frame 0) 0x40) (eqb-iff (byte frame 0) 0x40))
 
+-- the seven functions, and the four of them with a phy
+abbrev pub knownFunctions : List ℕ
+knownFunctions = 0x00 ∷ 0x01 ∷ 0x06 ∷ 0x11 ∷ 0x14 ∷ 0x91 ∷ 0x93 ∷ []
+
+abbrev pub phyFunctions : List ℕ
+phyFunctions = 0x11 ∷ 0x14 ∷ 0x91 ∷ 0x93 ∷ []
+
 -- not 01h: one of the seven functions
 pub known-iff : (function : ℕ)
     → T (known function)
-    ↔ List·Memᴰ function (0x00 ∷ 0x01 ∷ 0x06 ∷ 0x11 ∷ 0x14 ∷ 0x91 ∷ 0x93 ∷ [])
+    ↔ List·Memᴰ function knownFunctions
 unfolding known
-known-iff function = oneOf-iff (0x00 ∷ 0x01 ∷ 0x06 ∷ 0x11 ∷ 0x14 ∷ 0x91 ∷ 0x93 ∷ []) function
+known-iff function = oneOf-iff knownFunctions function
 
 -- ---- not 03h
 
@@ -116,7 +122,7 @@ unfolding asked
 asked-91 frame e = rw e
 
 pub asked-93 : (frame : List ℕ) → functionOf frame ≡ 0x93
-    → asked frame ≡ ConfigurePhyEvent (word frame 4) (bit (byte frame 6) 0) (byte frame 9) (byte frame 11)
+    → asked frame ≡ ConfigurePhyEvent (word frame 4) (clears frame) (byte frame 9) (byte frame 11)
 unfolding asked
 asked-93 frame e = rw e
 
@@ -128,11 +134,11 @@ pub by-function : (frame : List ℕ) (P : ℕ → Request → Type 0) → T (kno
     → P 0x11 (ReportPhyErrorLog (byte frame 9))
     → P 0x14 (ReportPhyEvent (byte frame 9))
     → P 0x91 (PhyControl (word frame 4) (byte frame 9) (byte frame 10))
-    → P 0x93 (ConfigurePhyEvent (word frame 4) (bit (byte frame 6) 0) (byte frame 9) (byte frame 11))
+    → P 0x93 (ConfigurePhyEvent (word frame 4) (clears frame) (byte frame 9) (byte frame 11))
     → P (functionOf frame) (asked frame)
 unfolding asked
 by-function frame P t p00 p01 p06 p11 p14 p91 p93 =
-    by-each (P (functionOf frame) (asked frame)) (functionOf frame) (0x00 ∷ 0x01 ∷ 0x06 ∷ 0x11 ∷ 0x14 ∷ 0x91 ∷ 0x93 ∷ []) (known-iff (functionOf frame) .0 t)
+    by-each (P (functionOf frame) (asked frame)) (functionOf frame) knownFunctions (known-iff (functionOf frame) .0 t)
     (λ e. rw e p00)
     (λ e. rw e p01)
     (λ e. rw e p06)
@@ -145,7 +151,7 @@ by-function frame P t p00 p01 p06 p11 p14 p91 p93 =
 
 pub allowed-iff : (source : ℕ) → T (allowed source) ↔ ((source ≡ 0x00) ⊎ T (supported source))
 unfolding allowed
-allowed-iff source = either-iff (eqb source 0x00) (supported source) (eqb-iff source 0x00) (λ t. t, λ t. t)
+allowed-iff source = either-iff (eqb source 0x00) (supported source) (eqb-iff source 0x00) Iff·rfl
 
 -- Of the n descriptors from i on, r is the first that is not allowed, or the place past the last: those before it are
 -- allowed, and it is not.

@@ -1,7 +1,7 @@
 -- When the expected count and the operation of a write pass, in plain logic. Assumes nothing.
 use Prim.Native.Nat.{ℕ}
 use mathlib.Core.Logic.{_↔_}
-use mathlib.Core.List.{[], _∷_, List·Memᴰ}
+use mathlib.Core.List.{List, [], _∷_, List·Memᴰ}
 use lib.Dec.{T}
 use Rattle.model.specs.Results.{countRight, knownOperation}
 use Rattle.model.proofs.Laws.Tests.{oneOf-iff}
@@ -13,9 +13,13 @@ pub count-right : (changes expected : ℕ)
 unfolding countRight
 count-right changes expected = oneOf-iff (0x0000 ∷ changes ∷ []) expected
 
--- not 13h: one of the four operations
+-- the four operations
+abbrev pub knownOperations : List ℕ
+knownOperations = 0x00 ∷ 0x01 ∷ 0x03 ∷ 0x05 ∷ []
+
+-- not 13h: one of them
 pub known-operation : (operation : ℕ)
     → T (knownOperation operation)
-    ↔ List·Memᴰ operation (0x00 ∷ 0x01 ∷ 0x03 ∷ 0x05 ∷ [])
+    ↔ List·Memᴰ operation knownOperations
 unfolding knownOperation
-known-operation operation = oneOf-iff (0x00 ∷ 0x01 ∷ 0x03 ∷ 0x05 ∷ []) operation
+known-operation operation = oneOf-iff knownOperations operation

@@ -1,8 +1,8 @@
--- What a changed part leaves alone: a change of phy p leaves every other phy, the table and the counts under FFh; a change of these leaves
--- every phy. Assumes nothing.
+-- What a change of phy p leaves alone: every other phy, the phy number, the table, the identifier and the counts under FFh. A change of
+-- these counts leaves the phy number, the table and the identifier. Assumes nothing.
 use Prim.Native.Nat.{ℕ, _<_}
 use mathlib.Core.Path.{_≡_, refl}
-use lib.ListN.{length}
+use lib.ListN.{length, length-set}
 use lib.Seq.{getD-set-same, getD-set-other}
 use Rattle.model.specs.declared.Phy.{Phy}
 use Rattle.model.specs.declared.Shelf.{Shelf}
@@ -14,9 +14,10 @@ pub record SameFixed (s t : Shelf) : Type 0 where
   pub table : t .table ≡ s .table
   pub identifier : t .identifier ≡ s .identifier
 
--- nothing but phy p, and perhaps the change count, is another
+-- there are as many phys as before, and nothing but phy p, and perhaps the change count, is another
 pub record OnlyPhy (s : Shelf) (p : ℕ) (t : Shelf) : Type 0 where
   pub fixed : SameFixed s t
+  pub size : length (t .phys) ≡ length (s .phys)
   pub others : (q : ℕ) → (q ≡ p → ⊥) → phyAt t q ≡ phyAt s q
   pub expander3 : t .expander3 ≡ s .expander3
   pub ses0 : t .ses0 ≡ s .ses0
@@ -25,7 +26,7 @@ pub same-fixed : (s : Shelf) → SameFixed s s
 same-fixed s = record { number = refl; table = refl; identifier = refl }
 
 pub same-only : (s : Shelf) (p : ℕ) → OnlyPhy s p s
-same-only s p = record { fixed = same-fixed s; others = λ q apart. refl; expander3 = refl; ses0 = refl }
+same-only s p = record { fixed = same-fixed s; size = refl; others = λ q apart. refl; expander3 = refl; ses0 = refl }
 
 module _ (s : Shelf) (p : ℕ) (x : Phy) (count : ℕ) where
   pub put-fixed : SameFixed s (put s p x count)
@@ -37,21 +38,10 @@ module _ (s : Shelf) (p : ℕ) (x : Phy) (count : ℕ) where
   pub put-other : (q : ℕ) → (q ≡ p → ⊥) → phyAt (put s p x count) q ≡ phyAt s q
   put-other q apart = getD-set-other (s .phys) p q x noPhy apart
 
-  pub put-count : put s p x count .changes ≡ count
-  put-count = refl
-
-  pub put-device-counts : (put s p x count .expander3 ≡ s .expander3) × (put s p x count .ses0 ≡ s .ses0)
-  put-device-counts = (refl, refl)
-
   pub put-only : OnlyPhy s p (put s p x count)
-  put-only = record { fixed = put-fixed; others = put-other; expander3 = refl; ses0 = refl }
+  put-only =
+      record { fixed = put-fixed; size = length-set (s .phys) p x; others = put-other; expander3 = refl; ses0 = refl }
 
 module _ (s : Shelf) (expander3 ses0 : ℕ) where
   pub device-fixed : SameFixed s (putDevice s expander3 ses0)
   device-fixed = record { number = refl; table = refl; identifier = refl }
-
-  pub device-phys : (putDevice s expander3 ses0 .phys ≡ s .phys) × (putDevice s expander3 ses0 .changes ≡ s .changes)
-  device-phys = (refl, refl)
-
-  pub device-counts : (putDevice s expander3 ses0 .expander3 ≡ expander3) × (putDevice s expander3 ses0 .ses0 ≡ ses0)
-  device-counts = (refl, refl)

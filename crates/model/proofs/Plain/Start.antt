@@ -3,7 +3,7 @@ use Prim.Native.Nat.{ℕ, _≤_, _<_}
 use native.Mathlib.Omega.{arith}
 use mathlib.Core.Path.{_≡_}
 use mathlib.Core.Logic.{_↔_, Iff·trans}
-use mathlib.Core.Bool.{not}
+use mathlib.Core.Bool.{Bool, not}
 use mathlib.Core.List.{List, [], _∷_}
 use lib.Dec.{T}
 use lib.ListN.{getD}
@@ -12,10 +12,10 @@ use Rattle.model.specs.House.{takenNumber}
 use Rattle.model.specs.Shelf.{phyAt, noPhy, freshPhy, startGroup, freshShelf, groupsFit, startTaken}
 use Rattle.model.specs.Tests.{within}
 use Rattle.model.specs.Zone.{zoneGroup, legalTable}
-use Rattle.model.proofs.Laws.Checks.{unless-iff, done-iff}
+use Rattle.model.proofs.Laws.Checks.{done-iff}
 use Rattle.model.proofs.Laws.Join.{join-at}
-use Rattle.model.proofs.Laws.Lowest.{none-given}
-use Rattle.model.proofs.Laws.Tests.{within-iff, leb-iff, allBelow-iff, check-map}
+use Rattle.model.proofs.Laws.Lowest.{firstGiven, none-given}
+use Rattle.model.proofs.Laws.Tests.{unless-iff, within-iff, leb-iff, allBelow-iff, check-map}
 use Rattle.model.proofs.Plain.Zone.{LegalTable, legal-table}
 
 -- none of H1, H2 and H3 applies
@@ -31,19 +31,23 @@ groups-iff n groups =
     Iff·trans (allBelow-iff n (λ p. zoneGroup (getD groups p 0)))
     (λ f p h. leb-iff (getD groups p 0) 31 .0 (f p h), λ f p h. leb-iff (getD groups p 0) 31 .1 (f p h))
 
-pub start-done : (n : ℕ) (groups table : List ℕ) → (startTaken n groups table ≡ Done) ↔ Startable n groups table
+-- what a start is told, as the first of these tests that holds
+abbrev pub startTests : ℕ → List ℕ → List ℕ → List Bool
+startTests n groups table = not (within 1 24 n) ∷ not (groupsFit n groups) ∷ not (legalTable table) ∷ []
+
+pub start-number : (n : ℕ) (groups table : List ℕ)
+    → takenNumber (startTaken n groups table) ≡ firstGiven (startTests n groups table) 1
 unfolding startTaken
+start-number n groups table = simp (check-map takenNumber)
+
+pub start-done : (n : ℕ) (groups table : List ℕ) → (startTaken n groups table ≡ Done) ↔ Startable n groups table
 start-done n groups table =
     let number = unless-iff (within 1 24 n) (within-iff 1 24 n) in
     let fit = unless-iff (groupsFit n groups) (groups-iff n groups) in
     let legal = unless-iff (legalTable table) (legal-table table) in
     Iff·trans (done-iff (startTaken n groups table))
-    (simp (check-map takenNumber)
-    (Iff·trans
-    (none-given
-    (not (within 1 24 n) ∷ not (groupsFit n groups) ∷ not (legalTable table) ∷ [])
-    1
-    (omega arith)) (
+    (rw (start-number n groups table)
+    (Iff·trans (none-given (startTests n groups table) 1 (omega arith)) (
       λ h. record { number = number .0 (h .0); groups-fit = fit .0 (h .1 .0); legal = legal .0 (h .1 .1 .0) },
       λ r. (number .1 (r .number), (fit .1 (r .groups-fit), (legal .1 (r .legal), tt))),
     )))

@@ -3,7 +3,7 @@ use Prim.Native.Nat.{ℕ, zero, suc, _+_, _<_, suc-le-suc}
 use native.Mathlib.Nat.{zero-lt-suc, not-suc-le-zero, le-of-suc-le-suc}
 use native.Mathlib.Omega.{arith}
 use mathlib.Core.Path.{_≡_, refl, ap}
-use mathlib.Core.Logic.{_↔_, _⊎_, inl, inr, Iff·trans}
+use mathlib.Core.Logic.{_↔_, _⊎_, inl, inr, Iff·rfl, Iff·trans}
 use mathlib.Core.Bool.{cond}
 use mathlib.Core.List.{List, [], _∷_}
 use lib.Dec.{T, ltb}
@@ -37,7 +37,7 @@ pub anyPeak-iff : (ms : List Monitor) → T (anyPeak ms) ↔ HasPeak ms
 unfolding anyPeak
 anyPeak-iff [] = (λ t. absurd t, λ h. absurd (not-suc-le-zero (h .1)))
 anyPeak-iff (m ∷ ms) =
-    Iff·trans (either-iff (peak (m .source)) (anyPeak ms) (λ t. t, λ t. t) (anyPeak-iff ms)) (to, from)
+    Iff·trans (either-iff (peak (m .source)) (anyPeak ms) Iff·rfl (anyPeak-iff ms)) (to, from)
   where
     to : T (peak (m .source)) ⊎ HasPeak ms → HasPeak (m ∷ ms)
     to (inl t) = (0, zero-lt-suc (length ms), t)

@@ -1,20 +1,20 @@
 -- House refusals of requests and reports, two faults at once among them, and what becomes of the lent buffer.
+-- The first number is that of the refusal, or of the first of several, and 0 where there is none.
 use mathlib.Core.List.{List, [], _∷_, _++_}
-use lib.ListN.{replicate}
 use Rattle.model.specs.Cases.{Case, Lend, Look, H, Numbers, fresh, ReachOf, Set}
 use Rattle.model.specs.Hex.{hex}
 use Rattle.model.specs.House.{takenNumber}
 use Rattle.model.specs.Reports.{event, linkChange}
 use Rattle.model.specs.Server.{served, lentAfter}
-use Rattle.model.specs.Vectors.Tools.{readBroadcasts, readPhy, control, answerNumbers}
+use Rattle.model.specs.Vectors.Tools.{readBroadcastsFrame, readPhyFrame, controlFrame, old, answerNumbers}
 
 unfoldable pub refusals : List Case
 refusals =
     -- H4 before H5 before H6; H5 of 1,027 bytes (case 13)
     fresh 4 (Lend 0 32 []) (H 4)
-    ∷ fresh 4 (Lend 0 264 (readBroadcasts 0x00)) (H 4)
+    ∷ fresh 4 (Lend 0 264 (readBroadcastsFrame 0x00)) (H 4)
     ∷ fresh 5 (Lend 1027 31 []) (H 5)
-    ∷ fresh 5 (Lend 1027 1 (readBroadcasts 0x00)) (H 5)
+    ∷ fresh 5 (Lend 1027 1 (readBroadcastsFrame 0x00)) (H 5)
     ∷ fresh 6 (Lend 1028 1 (hex "41 06 00 00")) (H 6)
     ∷ fresh 6 (Lend 1028 1 []) (H 6)
     -- events: H7 first, whole numbers; H8; H9 at its two limits; link changes: H7, FFh no phy
@@ -35,18 +35,18 @@ refusals =
     ∷ []))
     (Numbers (7 ∷ 7 ∷ 8 ∷ 8 ∷ 8 ∷ 0 ∷ 9 ∷ 0 ∷ 9 ∷ 0 ∷ 0 ∷ 7 ∷ []))
     -- a refusal leaves the lent buffer; a response leaves what is past it, and writes its zeros
-    ∷ fresh 5 (Look (λ s. lentAfter s 1 (readBroadcasts 0x00) (replicate 1027 0xEE))) (Numbers (replicate 1027 0xEE))
-    ∷ fresh 6 (Look (λ s. lentAfter s 1 [] (replicate 1028 0xEE))) (Numbers (replicate 1028 0xEE))
+    ∷ fresh 5 (Look (λ s. lentAfter s 1 (readBroadcastsFrame 0x00) (old 1027))) (Numbers (old 1027))
+    ∷ fresh 6 (Look (λ s. lentAfter s 1 [] (old 1028))) (Numbers (old 1028))
     ∷ fresh 0
-    (Look (λ s. lentAfter s 1 (readBroadcasts 0x00) (replicate 1028 0xEE)))
-    (Numbers (hex "41 06 00 01 00 01 00 00" ++ replicate 1020 0xEE))
+    (Look (λ s. lentAfter s 1 (readBroadcastsFrame 0x00) (old 1028)))
+    (Numbers (hex "41 06 00 01 00 01 00 00" ++ old 1020))
     -- the caller is told the length of the response, or the refusal; and the next shelf comes with it
     ∷ fresh 0
     (Look
-    (λ s. answerNumbers (served s 9 (readPhy 0x14 0x02 2) (replicate 1028 0xEE) .answer)
-    ++ answerNumbers (served s 8 (readPhy 0x14 0x02 2) (replicate 1028 0xEE) .answer)
-    ++ answerNumbers (served s 9 (readPhy 0x14 0x02 2) (replicate 1027 0xEE) .answer)
-    ++ (served s 8 (control 0x09 0x01 0 0x01) (replicate 1028 0xEE) .shelf .changes ∷ [])))
+    (λ s. answerNumbers (served s 9 (readPhyFrame 0x14 0x02 2) (old 1028) .answer)
+    ++ answerNumbers (served s 8 (readPhyFrame 0x14 0x02 2) (old 1028) .answer)
+    ++ answerNumbers (served s 9 (readPhyFrame 0x14 0x02 2) (old 1027) .answer)
+    ++ (served s 8 (controlFrame 0x09 0x01 0 0x01) (old 1028) .shelf .changes ∷ [])))
     (Numbers (0 ∷ 64 ∷ 0 ∷ 4 ∷ 5 ∷ 0x0002 ∷ []))
     -- a reach query of the last zone group
     ∷ fresh 0 (ReachOf 31) (Set 0x00000008 1)

@@ -1,4 +1,4 @@
--- On a shelf where no number of phy 0 is 0: what an operation doesn't name stays as it was.
+-- On a shelf where no number of phy 0 is 0: what an operation doesn't name stays as it was. No entry has a number: 0.
 use Prim.Native.Nat.{ℕ}
 use mathlib.Core.Bool.{cond}
 use mathlib.Core.List.{List, [], _∷_, _++_}
@@ -9,7 +9,7 @@ use Rattle.model.specs.Cases.{Case, Look, Numbers, on, sent}
 use Rattle.model.specs.Reply.{errorAt, monitorAt}
 use Rattle.model.specs.Runs.{Operation, Event, LinkChange, ReducedFunctionality, Ses, QueryReach}
 use Rattle.model.specs.Shelf.{phyAt}
-use Rattle.model.specs.Vectors.Tools.{control, configure, watch, monitors0, countsW, busyW}
+use Rattle.model.specs.Vectors.Tools.{controlFrame, configureFrame, watch, monitors0, countsW, busyW}
 
 -- all numbers of phy 0, with the counts under FFh and the change count
 abbrev pub all0 : Shelf → List ℕ
@@ -55,7 +55,7 @@ some s p =
 -- one operation about phy 2 where every phy has counts: phy 2 afterwards, and phy 0, which stays
 abbrev pub about2 : Operation → List ℕ → Case
 about2 operation phy2 =
-    on 2 countsW
+    on 0 countsW
     (operation ∷ [])
     (Look (λ s. some s 2 ++ some s 0))
     (Numbers (phy2 ++ (8 ∷ 0 ∷ 0x00 ∷ 0x0100 ∷ 0x0200 ∷ 0x0300 ∷ [])))
@@ -71,25 +71,25 @@ stays =
     ∷ leaves ReducedFunctionality link errors monitors counts (set others 0 0x0401)
     ∷ leaves Ses link errors monitors counts (set others 1 0x0501)
     -- 91h: none, link reset, disable, errors to 0
-    ∷ leaves (sent 8 (control 0x09 0x07 0 0x00)) link errors monitors counts others
-    ∷ leaves (sent 8 (control 0x09 0x07 0 0x01)) link errors monitors (set counts 0 0x0101) (set others 2 0x0008)
-    ∷ leaves (sent 8 (control 0x09 0x07 0 0x03)) (set link 1 0) errors monitors (set counts 0 0x0101) (set others 2 0x0008)
-    ∷ leaves (sent 8 (control 0x09 0x07 0 0x05)) link (zeros 4) monitors counts others
+    ∷ leaves (sent 8 (controlFrame 0x09 0x07 0 0x00)) link errors monitors counts others
+    ∷ leaves (sent 8 (controlFrame 0x09 0x07 0 0x01)) link errors monitors (set counts 0 0x0101) (set others 2 0x0008)
+    ∷ leaves (sent 8 (controlFrame 0x09 0x07 0 0x03)) (set link 1 0) errors monitors (set counts 0 0x0101) (set others 2 0x0008)
+    ∷ leaves (sent 8 (controlFrame 0x09 0x07 0 0x05)) link (zeros 4) monitors counts others
     -- 93h: one descriptor, and the clear
-    ∷ leaves (sent 8 (configure 0x04 0x07 0x00 0 1 (watch 0x2D 0x63))) link errors (set monitors 2 0x63) counts others
-    ∷ leaves (sent 8 (configure 0x02 0x07 0x01 0 0 [])) link errors (set (set monitors 1 0) 4 0) (set counts 2 0x0301) others
+    ∷ leaves (sent 8 (configureFrame 0x04 0x07 0x00 0 1 (watch 0x2D 0x63))) link errors (set monitors 2 0x63) counts others
+    ∷ leaves (sent 8 (configureFrame 0x02 0x07 0x01 0 0 [])) link errors (set (set monitors 1 0) 4 0) (set counts 2 0x0301) others
     -- the phy that is named changes, and no other
     ∷ about2 (Event 2 0x01 5) (9 ∷ 5 ∷ 0x00 ∷ 0x0102 ∷ 0x0202 ∷ 0x0302 ∷ [])
     ∷ about2 (LinkChange 2) (9 ∷ 0 ∷ 0x00 ∷ 0x0103 ∷ 0x0202 ∷ 0x0302 ∷ [])
-    ∷ about2 (sent 9 (control 0x09 0x01 2 0x01)) (9 ∷ 0 ∷ 0x00 ∷ 0x0103 ∷ 0x0202 ∷ 0x0302 ∷ [])
-    ∷ about2 (sent 9 (control 0x09 0x01 2 0x05)) (9 ∷ 0 ∷ 0x00 ∷ 0x0102 ∷ 0x0202 ∷ 0x0302 ∷ [])
-    ∷ about2 (sent 9 (configure 0x04 0x01 0x00 2 1 (watch 0x2D 10))) (9 ∷ 0 ∷ 0x2D ∷ 0x0102 ∷ 0x0202 ∷ 0x0302 ∷ [])
+    ∷ about2 (sent 9 (controlFrame 0x09 0x01 2 0x01)) (9 ∷ 0 ∷ 0x00 ∷ 0x0103 ∷ 0x0202 ∷ 0x0302 ∷ [])
+    ∷ about2 (sent 9 (controlFrame 0x09 0x01 2 0x05)) (9 ∷ 0 ∷ 0x00 ∷ 0x0102 ∷ 0x0202 ∷ 0x0302 ∷ [])
+    ∷ about2 (sent 9 (configureFrame 0x04 0x01 0x00 2 1 (watch 0x2D 10))) (9 ∷ 0 ∷ 0x2D ∷ 0x0102 ∷ 0x0202 ∷ 0x0302 ∷ [])
     -- a disabled phy stays so, counts, and originates Change on a link change
     ∷ on 0 busyW
-    (sent 8 (control 0x09 0x07 0 0x03)
+    (sent 8 (controlFrame 0x09 0x07 0 0x03)
     ∷ Event 0 0x02 3
-    ∷ sent 8 (control 0x09 0x00 0 0x05)
-    ∷ sent 8 (configure 0x02 0x00 0x01 0 0 [])
+    ∷ sent 8 (controlFrame 0x09 0x00 0 0x05)
+    ∷ sent 8 (configureFrame 0x02 0x00 0x01 0 0 [])
     ∷ LinkChange 0
     ∷ [])
     (Look all0)

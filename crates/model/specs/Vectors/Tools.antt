@@ -2,6 +2,7 @@
 use Prim.Native.Nat.{ℕ}
 use mathlib.Core.Bool.{true, cond}
 use mathlib.Core.List.{List, [], _∷_, _++_}
+use lib.ListN.{replicate}
 use Rattle.model.specs.declared.Answer.{Answer}
 use Rattle.model.specs.declared.Answer.the-variants.{Response, NoResponse}
 use Rattle.model.specs.declared.Monitor.{Monitor}
@@ -17,26 +18,30 @@ use Rattle.model.specs.ShelfW.{shelfW}
 -- ---- Frames
 
 -- 11h, 14h: function, byte 3, phy
-abbrev pub readPhy : ℕ → ℕ → ℕ → List ℕ
-readPhy function byte3 p = 0x40 ∷ function ∷ 0x00 ∷ byte3 ∷ 0x00 ∷ 0x00 ∷ 0x00 ∷ 0x00 ∷ 0x00 ∷ p ∷ 0x00 ∷ 0x00 ∷ []
+abbrev pub readPhyFrame : ℕ → ℕ → ℕ → List ℕ
+readPhyFrame function byte3 p = 0x40 ∷ function ∷ 0x00 ∷ byte3 ∷ 0x00 ∷ 0x00 ∷ 0x00 ∷ 0x00 ∷ 0x00 ∷ p ∷ 0x00 ∷ 0x00 ∷ []
 
 -- 06h: type
-abbrev pub readBroadcasts : ℕ → List ℕ
-readBroadcasts kind = 0x40 ∷ 0x06 ∷ kind ∷ 0x00 ∷ []
+abbrev pub readBroadcastsFrame : ℕ → List ℕ
+readBroadcastsFrame kind = 0x40 ∷ 0x06 ∷ kind ∷ 0x00 ∷ []
 
 -- 91h: byte 3, the low byte of the expected count, phy, operation
-abbrev pub control : ℕ → ℕ → ℕ → ℕ → List ℕ
-control byte3 expected p operation =
+abbrev pub controlFrame : ℕ → ℕ → ℕ → ℕ → List ℕ
+controlFrame byte3 expected p operation =
     (0x40 ∷ 0x91 ∷ 0x00 ∷ byte3 ∷ 0x00 ∷ expected ∷ 0x00 ∷ 0x00 ∷ 0x00 ∷ p ∷ operation ∷ []) ++ zeros 29
 
 -- 93h: byte 3, the low byte of the expected count, byte 6, phy, number of descriptors, and these
-abbrev pub configure : ℕ → ℕ → ℕ → ℕ → ℕ → List ℕ → List ℕ
-configure byte3 expected byte6 p d descriptors =
+abbrev pub configureFrame : ℕ → ℕ → ℕ → ℕ → ℕ → List ℕ → List ℕ
+configureFrame byte3 expected byte6 p d descriptors =
     (0x40 ∷ 0x93 ∷ 0x00 ∷ byte3 ∷ 0x00 ∷ expected ∷ byte6 ∷ 0x00 ∷ 0x00 ∷ p ∷ 0x00 ∷ d ∷ []) ++ descriptors
 
 -- a descriptor of a 93h: source, and the last byte of the threshold
 abbrev pub watch : ℕ → ℕ → List ℕ
 watch source threshold = 0x00 ∷ 0x00 ∷ 0x00 ∷ source ∷ 0x00 ∷ 0x00 ∷ 0x00 ∷ threshold ∷ []
+
+-- what stands in a lent buffer of n bytes
+abbrev pub old : ℕ → List ℕ
+old n = replicate n 0xEE
 
 -- ---- What is looked at: of phy 0, and of an answer
 
@@ -89,7 +94,7 @@ countsW =
 abbrev pub fullW : Shelf
 fullW = putDevice (withCounts shelfW 0 0xFFFF 0xFFFF 0xFFFF) 0xFFFF 0xFFFF
 
--- shelf W where no number of phy 0 is 0
+-- countsW where no number of phy 0 is 0, and the change count is 0007h
 abbrev pub busyW : Shelf
 busyW =
     put countsW 0
@@ -103,4 +108,4 @@ busyW =
 
 -- phy 0 is to watch 2Dh with threshold 10, 2Dh with threshold 11, 02h with threshold 5, and nothing
 abbrev pub watching : Operation
-watching = sent 8 (configure 0x0A 0x01 0x00 0 4 (watch 0x2D 10 ++ watch 0x2D 11 ++ watch 0x02 5 ++ watch 0x00 0))
+watching = sent 8 (configureFrame 0x0A 0x01 0x00 0 4 (watch 0x2D 10 ++ watch 0x2D 11 ++ watch 0x02 5 ++ watch 0x00 0))
