@@ -10,7 +10,7 @@ ghost use mathlib.Core.Path.{_≡_};
 ghost use Prim.Native.Nat.{max};
 ghost use mathlib.Core.Bool.{cond};
 ghost use mathlib.Core.List.{map};
-ghost use Rattle.model.specs.Counting.{originate, addWrapping, counted, crosses};
+ghost use Rattle.model.specs.Counting.{originateIf, addWrapping, counted, crosses};
 ghost use Rattle.model.specs.Counting.{originateCrossings, addError, eventOn, changeOn};
 ghost use Rattle.model.specs.Sources.{peak};
 
@@ -47,7 +47,7 @@ fn crosses(before: Monitor, after: u32) -> bool
 
 // ".. originates Expander 1h, once per monitor": the count after one monitor
 fn originate_crossing(source: u32, amount: u32, before: Monitor, count: u16) -> u16
-    ensures { λ r. ⌜ r ≡ cond (crosses before (counted source amount before .value)) (originate count) count ⌝ }
+    ensures { λ r. ⌜ r ≡ originateIf (crosses before (counted source amount before .value)) count ⌝ }
 {
     let after = counted(source, amount, before);
     if crosses(before, after.value) {

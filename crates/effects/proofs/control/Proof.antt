@@ -3,8 +3,7 @@
 use borrow.Author.Needs.{needs}
 use mathlib.Core.Path.{_≡_, sym, _∙_}
 use mathlib.Core.Logic.{⊎-elim}
-use mathlib.Core.Bool.{cond}
-use Rattle.model.specs.Counting.{originate}
+use Rattle.model.specs.Counting.{originateIf}
 use Rattle.model.specs.Shelf.{phyAt}
 use Rattle.model.specs.Writes.{controlled, controlChanges}
 use Rattle.effects.proofs.control.Statement.{statement}
@@ -38,8 +37,7 @@ read c =
 -- the change count, whichever way it came
 count-is : (c : tie.Joined1)
     → let a = c .before .before .before .before .before .args in
-    let changes = a .shelf .changes in
-    c .if1 .changes ≡ cond (controlChanges (a .operation) (phyAt (a .shelf) (a .phy))) (originate changes) changes
+    c .if1 .changes ≡ originateIf (controlChanges (a .operation) (phyAt (a .shelf) (a .phy))) (a .shelf .changes)
 count-is c =
     let tested = read (c .before) .1 in
     ⊎-elim (λ way. rw (sym tested ∙ way .0 .taken) (way .2 ∙ way .1 .ensures))
