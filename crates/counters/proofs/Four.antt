@@ -7,10 +7,10 @@ use lib.ListN.{length, getD}
 abbrev pub firstFour : {A : Type 0} → A → List A → List A
 firstFour d xs = getD xs 0 d ∷ getD xs 1 d ∷ getD xs 2 d ∷ getD xs 3 d ∷ []
 
-pub four : {A : Type 0} (d : A) (xs : List A) → length xs ≡ 4 → xs ≡ firstFour d xs
-four d [] h = absurd (omega arith)
-four d (x ∷ []) h = absurd (omega arith)
-four d (x ∷ y ∷ []) h = absurd (omega arith)
-four d (x ∷ y ∷ z ∷ []) h = absurd (omega arith)
-four d (x ∷ y ∷ z ∷ w ∷ []) h = refl
-four d (x ∷ y ∷ z ∷ w ∷ v ∷ vs) h = absurd (omega arith)
+pub four-elements : {A : Type 0} (d : A) (xs : List A) → length xs ≡ 4 → xs ≡ firstFour d xs
+four-elements d [] h = absurd (omega arith)
+four-elements d (x ∷ []) h = absurd (omega arith)
+four-elements d (x ∷ y ∷ []) h = absurd (omega arith)
+four-elements d (x ∷ y ∷ z ∷ []) h = absurd (omega arith)
+four-elements d (x ∷ y ∷ z ∷ w ∷ []) h = refl
+four-elements d (x ∷ y ∷ z ∷ w ∷ v ∷ vs) h = absurd (omega arith)

@@ -2,7 +2,7 @@
 ghost use mathlib.Core.Path.{_≡_};
 ghost use Rattle.model.specs.Counting.{originate, addWrapping, addSaturating};
 
-// "Originating adds one to that count; FFFFh goes to 0001h."
+// "Originating adds one to that count; FFFFh goes to 0001h." The change count moves the same way.
 pub fn originate(count: u16) -> u16
     ensures { λ r. ⌜ r ≡ originate count ⌝ }
 {

@@ -1,15 +1,16 @@
-// What a report does to the numbers of one phy.
+// What an event report, and originating Change, do to the numbers of one phy.
 use crate::counts::add_saturating;
 use crate::counts::add_wrapping;
 use crate::counts::originate;
 use crate::sources::peak;
+use crate::sources::within;
 use model::Monitor;
 use model::Phy;
 ghost use mathlib.Core.Path.{_≡_};
 ghost use Prim.Native.Nat.{max};
 ghost use mathlib.Core.Bool.{cond};
 ghost use mathlib.Core.List.{map};
-ghost use Rattle.model.specs.Counting.{originate, addWrapping, counted, crosses};
+ghost use Rattle.model.specs.Counting.{originateIf, addWrapping, counted, crosses};
 ghost use Rattle.model.specs.Counting.{originateCrossings, addError, eventOn, changeOn};
 ghost use Rattle.model.specs.Sources.{peak};
 
@@ -46,7 +47,7 @@ fn crosses(before: Monitor, after: u32) -> bool
 
 // ".. originates Expander 1h, once per monitor": the count after one monitor
 fn originate_crossing(source: u32, amount: u32, before: Monitor, count: u16) -> u16
-    ensures { λ r. ⌜ r ≡ cond (crosses before (counted source amount before .value)) (originate count) count ⌝ }
+    ensures { λ r. ⌜ r ≡ originateIf (crosses before (counted source amount before .value)) count ⌝ }
 {
     let after = counted(source, amount, before);
     if crosses(before, after.value) {
@@ -83,7 +84,7 @@ fn add_error(source: u32, amount: u32, errors: [u32; 4]) -> [u32; 4]
     ensures { λ r. ⌜ r ≡ addError source amount errors ⌝ }
 {
     let mut after = errors;
-    if (0x01 <= source) & (source <= 0x04) {
+    if within(0x01, 0x04, source) {
         let i = (source - 1) as usize;
         after[i] = add_saturating(errors[i], amount);
     }

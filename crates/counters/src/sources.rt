@@ -1,11 +1,11 @@
-// The event sources' decision, in the words of document 01's one line: "Supported sources: counting
+// Which event sources there are, range by range as in document 01's line: "Supported sources: counting
 // 01h to 06h, 20h to 2Ah, 40h to 45h; peak 2Bh to 2Eh."
 ghost use mathlib.Core.Path.{_≡_};
 ghost use Rattle.model.specs.Sources.{counting, peak, supported};
 ghost use Rattle.model.specs.Tests.{within};
 
 // source is one of those from low to high
-fn within(low: u32, high: u32, source: u32) -> bool
+pub(crate) fn within(low: u32, high: u32, source: u32) -> bool
     ensures { λ r. ⌜ r ≡ within low high source ⌝ }
 {
     (low <= source) & (source <= high)

@@ -21,10 +21,12 @@ fn control(shelf: Shelf, phy: u8, operation: u8) -> Shelf
     let phys = shelf.phys;
     let before = phy_at(phys, phy as u32);
     let after = controlled(operation, before);
-    if control_changes(operation, before) {
-        return put(shelf, phy as u32, after, originate(shelf.changes));
-    }
-    put(shelf, phy as u32, after, shelf.changes)
+    let changes = if control_changes(operation, before) {
+        originate(shelf.changes)
+    } else {
+        shelf.changes
+    };
+    put(shelf, phy as u32, after, changes)
 }
 
 // An accepted 93h: another record for its phy.

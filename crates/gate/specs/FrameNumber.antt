@@ -32,12 +32,12 @@ housePart (NoFrame house) = houseNumber house
 housePart (Fails result) = 0
 
 -- bits 24 to 31: 1 where there is a function to tell, and 0 where there is none
-abbrev pub toldPart : List ℕ → ℕ
-toldPart frame = cond (hasFunction frame) 1 0
+abbrev pub hasFunctionPart : List ℕ → ℕ
+hasFunctionPart frame = cond (hasFunction frame) 1 0
 
 unfoldable pub frameNumber : List ℕ → ℕ
 frameNumber frame =
-    toldPart frame * 0x1000000
+    hasFunctionPart frame * 0x1000000
     + housePart (judge frame) * 0x10000
     + resultPart (judge frame) * 0x100
     + functionPart frame

@@ -53,7 +53,8 @@ fn length_right(frame: &[u8]) -> bool
 }
 
 // What a frame of a known function and a right length asks: the expected count is in bytes 4 and 5, and
-// the phy in byte 9, of every function that has them.
+// the phy in byte 9, of every function that has them. The last arm is 93h: no other known function is
+// left.
 fn asked(frame: &[u8]) -> Request
     ensures { λ r. ⌜ r ≡ asked (now (frame .entry)) ⌝ }
 {
@@ -98,17 +99,6 @@ pub fn judge(frame: &[u8]) -> Judged
     Judged::Asked(asked(frame))
 }
 
-// The number of a judgement's house refusal, or 0 where there is none.
-fn house_part(judged: Judged) -> u8
-    ensures { λ r. ⌜ r ≡ housePart judged ⌝ }
-{
-    match judged {
-        Judged::Asked(_) => 0,
-        Judged::NoFrame(house) => house_number(house),
-        Judged::Fails(_) => 0,
-    }
-}
-
 // The code of a judgement's failed result, or 00h where there is none.
 fn result_part(judged: Judged) -> u8
     ensures { λ r. ⌜ r ≡ resultPart judged ⌝ }
@@ -117,6 +107,17 @@ fn result_part(judged: Judged) -> u8
         Judged::Asked(_) => 0x00,
         Judged::NoFrame(_) => 0x00,
         Judged::Fails(result) => result_code(result),
+    }
+}
+
+// The number of a judgement's house refusal, or 0 where there is none.
+fn house_part(judged: Judged) -> u8
+    ensures { λ r. ⌜ r ≡ housePart judged ⌝ }
+{
+    match judged {
+        Judged::Asked(_) => 0,
+        Judged::NoFrame(house) => house_number(house),
+        Judged::Fails(_) => 0,
     }
 }
 

@@ -53,22 +53,22 @@ pub fn phy_at(phys: [Phy; 24], p: u32) -> Phy
 }
 
 // These phys with another record for phy p. Where there is no place for it, they stay.
-fn set_phy(phys: [Phy; 24], p: u32, phy: Phy) -> [Phy; 24]
-    ensures { λ r. ⌜ r ≡ set phys p phy ⌝ }
+fn set_phy(phys: [Phy; 24], p: u32, numbers: Phy) -> [Phy; 24]
+    ensures { λ r. ⌜ r ≡ set phys p numbers ⌝ }
 {
     let mut after = phys;
     if p < 24 {
-        after[p as usize] = phy;
+        after[p as usize] = numbers;
     }
     after
 }
 
 // The shelf with another record for phy p, and another change count.
-pub fn put(shelf: Shelf, p: u32, phy: Phy, changes: u16) -> Shelf
-    ensures { λ r. ⌜ r ≡ put shelf p phy changes ⌝ }
+pub fn put(shelf: Shelf, p: u32, numbers: Phy, changes: u16) -> Shelf
+    ensures { λ r. ⌜ r ≡ put shelf p numbers changes ⌝ }
 {
     let before = shelf.phys;
-    let phys = set_phy(before, p, phy);
+    let phys = set_phy(before, p, numbers);
     let mut after = shelf;
     after.phys = phys;
     after.changes = changes;

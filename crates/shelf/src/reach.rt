@@ -34,8 +34,8 @@ fn reach_set(shelf: Shelf, source: u32) -> u32
     let number = phy_number(shelf.number);
     let mut set = 0;
     for p in 0..number {
-        let phy = phy_at(phys, p);
-        set = set + phy_bit(row, phy.group, p);
+        let numbers = phy_at(phys, p);
+        set = set + phy_bit(row, numbers.group, p);
     }
     set
 }

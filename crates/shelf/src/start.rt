@@ -22,7 +22,8 @@ fn start_group(number: u32, groups: [u32; 24], p: u32) -> u32
     0
 }
 
-// Places past the phy number hold a fresh phy of group 0.
+// The 24 phys of a fresh shelf, each in the group that was given for it. Places past the phy number hold
+// a fresh phy of group 0.
 fn fresh_phys(number: u32, groups: [u32; 24]) -> [Phy; 24]
     ensures { λ r. ⌜ r ≡ freshPhys number groups ⌝ }
 {

@@ -111,19 +111,17 @@ fn any_peak(monitors: [Monitor; 4]) -> bool
     on_peak(monitors[0]) | on_peak(monitors[1]) | on_peak(monitors[2]) | on_peak(monitors[3])
 }
 
-// "Then, if clearing": the phy once its monitors are set and then its peaks cleared. "Expander 2h is
-// originated once" where what was set has a peak.
-fn set_then_clear(frame: &[u8], d: u8, before: Phy) -> Phy
-    ensures { λ r. ⌜ r ≡ clearOn (setOn (now (frame .entry)) d before) ⌝ }
+// "Then, if clearing": the phy once its peaks are cleared. "Expander 2h is originated once" where it has
+// one.
+fn clear_on(before: Phy) -> Phy
+    ensures { λ r. ⌜ r ≡ clearOn before ⌝ }
 {
     let monitors = before.monitors;
-    let set = set_monitors(frame, d, monitors);
-    let cleared = clear_monitors(set);
-    let originated = originate(before.expander2);
+    let cleared = clear_monitors(monitors);
     let mut after = before;
     after.monitors = cleared;
-    if any_peak(set) {
-        after.expander2 = originated;
+    if any_peak(monitors) {
+        after.expander2 = originate(before.expander2);
     }
     after
 }
@@ -133,7 +131,7 @@ pub fn configured(frame: &[u8], d: u8, clear: bool, before: Phy) -> Phy
     ensures { λ r. ⌜ r ≡ configured (now (frame .entry)) d clear before ⌝ }
 {
     if clear {
-        return set_then_clear(frame, d, before);
+        return clear_on(set_on(frame, d, before));
     }
     set_on(frame, d, before)
 }

@@ -13,14 +13,6 @@ fn without_errors(before: Phy) -> Phy
     after
 }
 
-// "01h link reset enables the phy and originates Change; 03h disable originates Change only if the phy
-// was enabled": whether the phy originates Change, and so the change count moves too
-pub fn control_changes(operation: u8, before: Phy) -> bool
-    ensures { λ r. ⌜ r ≡ controlChanges operation before ⌝ }
-{
-    (operation == 0x01) | (operation == 0x03) & before.enabled
-}
-
 // "00h none; 01h link reset ..; 03h disable ..; 05h sets the four error counts to 0": the phy afterwards
 pub fn controlled(operation: u8, before: Phy) -> Phy
     ensures { λ r. ⌜ r ≡ controlled operation before ⌝ }
@@ -35,4 +27,12 @@ pub fn controlled(operation: u8, before: Phy) -> Phy
         0x05 => without_errors(before),
         _ => before,
     }
+}
+
+// "01h link reset enables the phy and originates Change; 03h disable originates Change only if the phy
+// was enabled": whether the phy originates Change, and so the change count moves too
+pub fn control_changes(operation: u8, before: Phy) -> bool
+    ensures { λ r. ⌜ r ≡ controlChanges operation before ⌝ }
+{
+    (operation == 0x01) | (operation == 0x03) & before.enabled
 }

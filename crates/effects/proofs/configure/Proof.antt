@@ -1,4 +1,4 @@
--- `effects::configure` meets its contract: the phy is put back as the descriptors leave it. Assumes nothing.
+-- `effects::configure` meets its contract: the phy is put back as the descriptors and the clear leave it. Assumes nothing.
 use borrow.Author.Needs.{needs}
 use Rattle.effects.proofs.configure.Statement.{statement}
 use Rattle.effects.proofs.configure.Tie as tie

@@ -1,6 +1,9 @@
--- `effects::control` meets its contract: the phy is put back as the operation leaves it. Assumes nothing.
+-- `effects::control` meets its contract: the phy is put back as the operation leaves it, and the change count moves where it
+-- originates Change. Assumes nothing.
 use borrow.Author.Needs.{needs}
 use mathlib.Core.Path.{_≡_, sym, _∙_}
+use mathlib.Core.Logic.{⊎-elim}
+use Rattle.model.specs.Counting.{originateIf}
 use Rattle.model.specs.Shelf.{phyAt}
 use Rattle.model.specs.Writes.{controlled, controlChanges}
 use Rattle.effects.proofs.control.Statement.{statement}
@@ -28,29 +31,21 @@ read : (c : tie.After-control-changes)
     (c .before .controlled .result ≡ controlled (a .operation) before)
     × (c .control-changes .result ≡ controlChanges (a .operation) before)
 read c =
-    let at = c .before .before .phy-at .ensures in
-    (rw at at (c .before .controlled .ensures), rw at at (c .control-changes .ensures))
+    let is-phy = c .before .before .phy-at .ensures in
+    (rw is-phy at (c .before .controlled .ensures), rw is-phy at (c .control-changes .ensures))
+
+-- the change count, whichever way it came
+count-is : (c : tie.Joined1)
+    → let a = c .before .before .before .before .before .args in
+    c .if1 .changes ≡ originateIf (controlChanges (a .operation) (phyAt (a .shelf) (a .phy))) (a .shelf .changes)
+count-is c =
+    let tested = read (c .before) .1 in
+    ⊎-elim (λ way. rw (sym tested ∙ way .0 .taken) (way .2 ∙ way .1 .ensures))
+    (λ way. rw (sym tested ∙ way .0 .left) (way .1))
+    (c .if1 .came)
 
 returns : tie.Need-returns
-returns c =
-    let tested = c .before .before in
-    rw (
-      c .put .ensures,
-      c .before .originate .ensures,
-      read (tested .before) .0,
-      sym (read (tested .before) .1) ∙ tested .if1 .taken,
-    )
-
-put-requires-2 : tie.Need-put-requires-2
-put-requires-2 c κs = search needs
-
-returns-2 : tie.Need-returns-2
-returns-2 c =
-    rw (
-      c .put2 .ensures,
-      read (c .before .before) .0,
-      sym (read (c .before .before) .1) ∙ c .before .if1 .left,
-    )
+returns c = rw (c .put .ensures, read (c .before .before) .0, count-is (c .before))
 
 pub control-spec : {M : Type 1} → statement M
 control-spec =
@@ -61,6 +56,4 @@ control-spec =
     control-changes-requires
     originate-requires
     put-requires
-    returns
-    put-requires-2
-    returns-2)
+    returns)

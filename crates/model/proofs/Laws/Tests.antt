@@ -95,6 +95,9 @@ eqb-iff m n = (eqb→eq m n, λ e. subst⁻¹ (λ (k : ℕ). T (eqb k n)) e (eqb
 pub within-iff : (low high n : ℕ) → T (within low high n) ↔ ((low ≤ n) × (n ≤ high))
 within-iff low high n = both-iff (leb low n) (leb n high) (leb-iff low n) (leb-iff n high)
 
+pub within-true : (low high n : ℕ) → within low high n ≡ true → (low ≤ n) × (n ≤ high)
+within-true low high n e = within-iff low high n .0 (rw e tt)
+
 -- not at most is above
 pub above-iff : (m n : ℕ) → T (not (leb m n)) ↔ (n < m)
 above-iff m n = (nleb→lt m n, λ h. not-T (leb m n) (λ t. not-le-of-lt h (leb→le m n t)))

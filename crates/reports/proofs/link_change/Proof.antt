@@ -1,9 +1,9 @@
 -- `reports::link_change` meets its contract: where the phy exists it is put back changed, and where not the shelf stays.
 -- Assumes nothing.
 use borrow.Author.Needs.{needs}
+use borrow.Author.Tests.{not-true, not-false}
 use mathlib.Core.Path.{_≡_, sym, _∙_}
 use mathlib.Core.Bool.{true}
-use borrow.Author.Tests.{not-true, not-false}
 use Rattle.model.specs.Reports.{linkChange}
 use Rattle.model.specs.Shelf.{exists}
 use Rattle.reports.proofs.link_change.Statement.{statement}

@@ -1,21 +1,21 @@
 -- `counters::phy::add_error` meets its contract: the place of a source from 01h to 04h is one of the four. Assumes nothing.
 use borrow.Author.Needs.{needs}
-use Prim.Native.Nat.{ℕ, _≤_}
+use Prim.Native.Nat.{_≤_}
 use native.Mathlib.Omega.{arith}
-use mathlib.Core.Path.{_≡_, subst⁻¹}
-use mathlib.Core.Bool.{true}
-use lib.Dec.{T}
+use mathlib.Core.Path.{sym, _∙_}
 use Rattle.model.specs.Counting.{addError}
-use Rattle.model.specs.Tests.{within}
-use Rattle.model.proofs.Laws.Tests.{within-iff}
+use Rattle.model.proofs.Laws.Tests.{within-true}
 use Rattle.counters.proofs.phy.add_error.Statement.{statement}
 use Rattle.counters.proofs.phy.add_error.Tie as tie
 
-in-range : (source : ℕ) → within 0x01 0x04 source ≡ true → (0x01 ≤ source) × (source ≤ 0x04)
-in-range source e = within-iff 0x01 0x04 source .0 (subst⁻¹ T e tt)
+within-requires : tie.Need-within-requires
+within-requires c κs = search needs
+
+in-range : (c : tie.Then1) → let source = c .before .before .args .source in (0x01 ≤ source) × (source ≤ 0x04)
+in-range c = within-true 0x01 0x04 _ (sym (c .before .within .ensures) ∙ c .if1 .taken)
 
 sub-i : tie.Need-sub-i
-sub-i c = omega (arith, in-range (c .before .args .source) (c .if1 .taken))
+sub-i c = omega (arith, in-range c)
 
 cast-i : tie.Need-cast-i
 cast-i c = search needs
@@ -24,7 +24,7 @@ mul-add-saturating : tie.Need-mul-add-saturating
 mul-add-saturating c = search needs
 
 array-read-add-saturating : tie.Need-array-read-add-saturating
-array-read-add-saturating c = omega (arith, in-range (c .before .args .source) (c .if1 .taken))
+array-read-add-saturating c = omega (arith, in-range c)
 
 add-saturating-requires : tie.Need-add-saturating-requires
 add-saturating-requires c κs = search needs
@@ -33,20 +33,21 @@ mul-after : tie.Need-mul-after
 mul-after c = search needs
 
 array-write-after : tie.Need-array-write-after
-array-write-after c = omega (arith, in-range (c .before .before .args .source) (c .before .if1 .taken))
+array-write-after c = omega (arith, in-range (c .before))
 
 returns : tie.Need-returns
 unfolding addError
-returns c = rw (c .before .if1 .taken, c .add-saturating .ensures)
+returns c = rw (sym (c .before .before .within .ensures) ∙ c .before .if1 .taken, c .add-saturating .ensures)
 
 returns-2 : tie.Need-returns-2
 unfolding addError
-returns-2 c = rw (c .if1 .left)
+returns-2 c = rw (sym (c .before .within .ensures) ∙ c .if1 .left)
 
 pub add-error-spec : {M : Type 1} → statement M
 add-error-spec =
     tie.close
     (tie.spec
+    within-requires
     sub-i
     cast-i
     mul-add-saturating

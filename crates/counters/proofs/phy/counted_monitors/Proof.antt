@@ -4,7 +4,7 @@ use native.Mathlib.Omega.{arith}
 use mathlib.Core.Path.{_≡_}
 use lib.ListN.{length}
 use Rattle.model.specs.Shelf.{freshMonitor}
-use Rattle.counters.proofs.Four.{four}
+use Rattle.counters.proofs.Four.{four-elements}
 use Rattle.counters.proofs.phy.counted_monitors.Statement.{statement}
 use Rattle.counters.proofs.phy.counted_monitors.Tie as tie
 
@@ -34,9 +34,10 @@ counted-requires-4 c κs = search needs
 
 returns : tie.Need-returns
 returns c =
-    let size : length (c .before .before .before .before .before .before .before .before .args .t3) ≡ 4 = omega arith in
+    let monitors = c .before .before .before .before .before .before .before .before .args .t3 in
+    let size : length monitors ≡ 4 = omega arith in
     rw (
-      four freshMonitor (c .before .before .before .before .before .before .before .before .args .t3) size,
+      four-elements freshMonitor monitors size,
       c .before .before .before .before .before .before .counted .ensures,
       c .before .before .before .before .counted2 .ensures,
       c .before .before .counted3 .ensures,

@@ -5,7 +5,7 @@ use mathlib.Core.Path.{_≡_}
 use lib.ListN.{length}
 use Rattle.model.specs.Counting.{originateCrossings}
 use Rattle.model.specs.Shelf.{freshMonitor}
-use Rattle.counters.proofs.Four.{four}
+use Rattle.counters.proofs.Four.{four-elements}
 use Rattle.counters.proofs.phy.originate_crossings.Statement.{statement}
 use Rattle.counters.proofs.phy.originate_crossings.Tie as tie
 
@@ -36,9 +36,10 @@ originate-crossing-requires-4 c κs = search needs
 returns : tie.Need-returns
 unfolding originateCrossings
 returns c =
-    let size : length (c .before .before .before .before .before .before .before .before .args .t3) ≡ 4 = omega arith in
+    let monitors = c .before .before .before .before .before .before .before .before .args .t3 in
+    let size : length monitors ≡ 4 = omega arith in
     rw (
-      four freshMonitor (c .before .before .before .before .before .before .before .before .args .t3) size,
+      four-elements freshMonitor monitors size,
       c .originate-crossing4 .ensures,
       c .before .before .originate-crossing3 .ensures,
       c .before .before .before .before .originate-crossing2 .ensures,

@@ -1,7 +1,7 @@
 -- `gate::zone::smp_row_reaches` meets its contract: above 31 no, and up to 31 the bit. Assumes nothing.
 use borrow.Author.Needs.{needs}
-use native.Mathlib.Omega.{arith}
 use borrow.Author.Tests.{le-leb, lt-leb}
+use native.Mathlib.Omega.{arith}
 use Rattle.model.specs.Zone.{rowReaches}
 use Rattle.gate.proofs.zone.smp_row_reaches.Statement.{statement}
 use Rattle.gate.proofs.zone.smp_row_reaches.Tie as tie

@@ -1,10 +1,10 @@
 -- `shelf::reach::phy_bit` meets its contract: `1 << p` is 2 ^ p, since p is below 24 and so nothing is shifted out.
 -- Assumes nothing.
+use borrow.Author.Needs.{needs}
 use Prim.Native.Nat.{_^_}
 use native.Mathlib.Nat.{one-mul}
 use native.Mathlib.Omega.{arith}
 use mathlib.Core.Path.{sym, _∙_}
-use borrow.Author.Needs.{needs}
 use lib.Pow.{shl-exact}
 use Rattle.shelf.proofs.reach.phy_bit.Statement.{statement}
 use Rattle.shelf.proofs.reach.phy_bit.Tie as tie

@@ -1,7 +1,7 @@
 -- `shelf::reach::reach_query` meets its contract: the number of phys is the count of ones of the set. Assumes nothing.
+use borrow.Author.Needs.{needs}
 use native.Mathlib.Omega.{arith}
 use mathlib.Core.Path.{sym}
-use borrow.Author.Needs.{needs}
 use Rattle.model.proofs.Plain.Reach.{reach-answered, reach-refused, reach-ones}
 use Rattle.shelf.proofs.reach.reach_query.Statement.{statement}
 use Rattle.shelf.proofs.reach.reach_query.Tie as tie

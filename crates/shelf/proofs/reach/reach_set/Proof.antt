@@ -1,5 +1,6 @@
 -- `shelf::reach::reach_set` meets its contract. The loop's invariant: the set has the bits of the phys passed that the
 -- source reaches. The measure is how many of the 24 places are left. Assumes nothing.
+use borrow.Author.Needs.{needs}
 use Prim.Native.Nat.{ℕ, _+_, _-_, _^_, _≤_}
 use native.Mathlib.Numerals.{add-one}
 use native.Mathlib.Omega.{arith}
@@ -7,7 +8,6 @@ use mathlib.Core.Path.{_≡_, _∙_}
 use mathlib.Core.Bool.{Bool, cond}
 use mathlib.Core.List.{List}
 use lib.ListN.{getD}
-use borrow.Author.Needs.{needs}
 use Rattle.model.specs.declared.Phy.{Phy}
 use Rattle.model.specs.Reach.{reachSet}
 use Rattle.model.specs.Shelf.{noPhy}
@@ -49,19 +49,19 @@ phy-bit-requires : tie.Need-phy-bit-requires Inv-loop μ-loop
 phy-bit-requires c κs = search needs
 
 -- the phys that the source's row reaches
-abbrev these : tie.After-phy-bit Inv-loop μ-loop → ℕ → Bool
-these c =
-    let counted = c .before .before .before .before in
-    reached (counted .before .row .result) (counted .before .before .before .before .args .shelf .phys)
+abbrev reachedHere : tie.After-phy-bit Inv-loop μ-loop → ℕ → Bool
+reachedHere c =
+    let numbered = c .before .before .before .before in
+    reached (numbered .before .row .result) (numbered .before .before .before .before .args .shelf .phys)
 
 -- the set with what this turn adds to it
 added : (c : tie.After-phy-bit Inv-loop μ-loop)
     → c .before .before .before .loop .set + c .phy-bit .result
-    ≡ powers (c .before .before .before .loop .p + 1) (these c)
-added c = cc (powers-more (c .before .before .before .loop .p) (these c))
+    ≡ powers (c .before .before .before .loop .p + 1) (reachedHere c)
+added c = cc (powers-more (c .before .before .before .loop .p) (reachedHere c))
 
 add-set : tie.Need-add-set Inv-loop μ-loop
-add-set c = rw (added c) (record { fits = powers-fit 32 _ (these c) (omega arith) })
+add-set c = rw (added c) (record { fits = powers-fit 32 _ (reachedHere c) (omega arith) })
 
 add-p : tie.Need-add-p Inv-loop μ-loop
 add-p c = search needs
@@ -75,9 +75,9 @@ loop-again c = (omega arith, added c)
 returns : tie.Need-returns Inv-loop μ-loop
 unfolding reachSet
 returns c =
-    let counted = c .before .before in
-    let done : c .before .loop .p ≡ counted .phy-number .result = omega arith in
-    (rw done at (c .before .loop .inv .1)) ∙ rw (counted .phy-number .ensures, counted .before .row .ensures)
+    let numbered = c .before .before in
+    let done : c .before .loop .p ≡ numbered .phy-number .result = omega arith in
+    (rw done at (c .before .loop .inv .1)) ∙ rw (numbered .phy-number .ensures, numbered .before .row .ensures)
 
 pub reach-set-spec : {M : Type 1} → statement M
 reach-set-spec =

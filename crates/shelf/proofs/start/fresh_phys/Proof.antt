@@ -1,14 +1,14 @@
 -- `shelf::start::fresh_phys` meets its contract: the loop's invariant is that the places so far hold the fresh phys of their
 -- groups. Assumes nothing.
-use Prim.Native.Nat.{_-_}
 use borrow.Author.Needs.{needs}
-use mathlib.Core.Path.{refl, ap, _∙_}
+use Prim.Native.Nat.{_-_}
 use native.Mathlib.Omega.{arith}
+use mathlib.Core.Path.{refl, ap, _∙_}
 use lib.ListN.{replicate}
 use Rattle.model.specs.Shelf.{freshPhy, startGroup}
+use Rattle.shelf.proofs.Filled.{FilledSoFar, filled-begin, filled-turn, filled-end}
 use Rattle.shelf.proofs.start.fresh_phys.Statement.{statement}
 use Rattle.shelf.proofs.start.fresh_phys.Tie as tie
-use Rattle.shelf.proofs.Filled.{FilledSoFar, filled-begin, filled-turn, filled-end}
 
 abbrev Inv-loop : tie.InvT-loop
 Inv-loop number groups phys₀ p₀ phys p = FilledSoFar 24 (λ q. freshPhy (startGroup number groups q)) p phys

@@ -1,13 +1,13 @@
 -- `shelf::start::groups_fit` meets its contract: the loop's invariant is that all groups so far are zone groups. Assumes nothing.
-use Prim.Native.Nat.{_-_}
-use mathlib.Core.Path.{refl}
 use borrow.Author.Needs.{needs}
+use Prim.Native.Nat.{_-_}
 use native.Mathlib.Omega.{arith}
+use mathlib.Core.Path.{refl}
 use lib.ListN.{getD}
 use Rattle.model.specs.Zone.{zoneGroup}
+use Rattle.shelf.proofs.All.{AllSoFar, all-begin, all-turn, all-end}
 use Rattle.shelf.proofs.start.groups_fit.Statement.{statement}
 use Rattle.shelf.proofs.start.groups_fit.Tie as tie
-use Rattle.shelf.proofs.All.{AllSoFar, all-begin, all-turn, all-end}
 
 abbrev Inv-loop : tie.InvT-loop
 Inv-loop number groups fit₀ p₀ fit p = AllSoFar number (λ q. zoneGroup (getD groups q 0)) p fit

@@ -7,7 +7,7 @@ use Rattle.model.specs.declared.House.the-variants.{IllegalTable}
 use Rattle.model.specs.declared.Taken.the-variants.{Done, NotDone}
 use Rattle.model.specs.Shelf.{startTaken}
 use Rattle.model.specs.Tests.{check, within}
-use Rattle.model.proofs.Laws.Tests.{within-iff}
+use Rattle.model.proofs.Laws.Tests.{within-true}
 use Rattle.shelf.proofs.start.start_taken.Statement.{statement}
 use Rattle.shelf.proofs.start.start_taken.Tie as tie
 
@@ -18,7 +18,7 @@ returns c = simp (c .if1 .taken)
 groups-fit-requires : tie.Need-groups-fit-requires
 groups-fit-requires c κs =
     let n = c .before .args .number in
-    within-iff 1 24 n .0 (rw (not-false (within 1 24 n) (c .if1 .left)) tt) .1
+    within-true 1 24 n (not-false (within 1 24 n) (c .if1 .left)) .1
 
 returns-2 : tie.Need-returns-2
 unfolding startTaken

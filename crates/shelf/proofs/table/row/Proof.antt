@@ -1,7 +1,7 @@
 -- `shelf::table::row` meets its contract: the table has 32 rows, so past 31 there is none. Assumes nothing.
+use borrow.Author.Needs.{needs}
 use Prim.Native.Nat.{_≤_}
 use native.Mathlib.Omega.{arith}
-use borrow.Author.Needs.{needs}
 use lib.ListN.{length, List·getD-eq-default}
 use Rattle.shelf.proofs.table.row.Statement.{statement}
 use Rattle.shelf.proofs.table.row.Tie as tie

@@ -1,14 +1,14 @@
 -- `shelf::table::row_symmetric` meets its contract. The loop's invariant is that all bits so far are mirrored; for a group
 -- of 0 to 31 the row test is the bit. Assumes nothing.
-use Prim.Native.Nat.{_-_}
-use mathlib.Core.Bool.{Bool·beq}
 use borrow.Author.Needs.{needs}
 use borrow.Author.Tests.{le-leb}
+use Prim.Native.Nat.{_-_}
 use native.Mathlib.Omega.{arith}
+use mathlib.Core.Bool.{Bool·beq}
 use Rattle.model.specs.Zone.{bit, row, rowReaches}
+use Rattle.shelf.proofs.All.{AllSoFar, all-begin, all-turn, all-end}
 use Rattle.shelf.proofs.table.row_symmetric.Statement.{statement}
 use Rattle.shelf.proofs.table.row_symmetric.Tie as tie
-use Rattle.shelf.proofs.All.{AllSoFar, all-begin, all-turn, all-end}
 
 abbrev Inv-loop : tie.InvT-loop
 Inv-loop g table ok₀ h₀ ok h = AllSoFar 32 (λ k. Bool·beq (bit (row table g) k) (bit (row table k) g)) h ok

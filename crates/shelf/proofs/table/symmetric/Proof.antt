@@ -1,11 +1,11 @@
 -- `shelf::table::symmetric` meets its contract: the loop's invariant is that all rows so far are symmetric. Assumes nothing.
-use Prim.Native.Nat.{_-_}
 use borrow.Author.Needs.{needs}
+use Prim.Native.Nat.{_-_}
 use native.Mathlib.Omega.{arith}
 use Rattle.model.specs.Zone.{rowSymmetric, symmetric}
+use Rattle.shelf.proofs.All.{AllSoFar, all-begin, all-turn, all-end}
 use Rattle.shelf.proofs.table.symmetric.Statement.{statement}
 use Rattle.shelf.proofs.table.symmetric.Tie as tie
-use Rattle.shelf.proofs.All.{AllSoFar, all-begin, all-turn, all-end}
 
 abbrev Inv-loop : tie.InvT-loop
 Inv-loop table ok₀ g₀ ok g = AllSoFar 32 (λ k. rowSymmetric table k) g ok

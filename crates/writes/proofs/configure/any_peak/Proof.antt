@@ -6,7 +6,7 @@ use mathlib.Core.Bool.{Bool, false, _||_, or-assoc, or-false}
 use lib.ListN.{length}
 use Rattle.model.specs.Shelf.{freshMonitor}
 use Rattle.model.specs.Writes.{anyPeak}
-use Rattle.counters.proofs.Four.{four}
+use Rattle.counters.proofs.Four.{four-elements}
 use Rattle.writes.proofs.configure.any_peak.Statement.{statement}
 use Rattle.writes.proofs.configure.any_peak.Tie as tie
 
@@ -48,7 +48,7 @@ returns c =
     (c .before .before .on-peak3 .result)
     (c .on-peak4 .result)
     ∙ rw (
-      four freshMonitor monitors size,
+      four-elements freshMonitor monitors size,
       c .before .before .before .before .before .before .on-peak .ensures,
       c .before .before .before .before .on-peak2 .ensures,
       c .before .before .on-peak3 .ensures,

@@ -4,7 +4,7 @@ use native.Mathlib.Omega.{arith}
 use mathlib.Core.Path.{_≡_}
 use lib.ListN.{length}
 use Rattle.model.specs.Shelf.{freshMonitor}
-use Rattle.counters.proofs.Four.{four}
+use Rattle.counters.proofs.Four.{four-elements}
 use Rattle.writes.proofs.configure.clear_monitors.Statement.{statement}
 use Rattle.writes.proofs.configure.clear_monitors.Tie as tie
 
@@ -37,7 +37,7 @@ returns c =
     let monitors = c .before .before .before .before .before .before .before .before .args .t1 in
     let size : length monitors ≡ 4 = omega arith in
     rw (
-      four freshMonitor monitors size,
+      four-elements freshMonitor monitors size,
       c .before .before .before .before .before .before .clear-monitor .ensures,
       c .before .before .before .before .clear-monitor2 .ensures,
       c .before .before .clear-monitor3 .ensures,

@@ -5,7 +5,7 @@ use mathlib.Core.Path.{_≡_}
 use lib.ListN.{length}
 use Rattle.model.specs.Shelf.{freshMonitor}
 use Rattle.model.specs.Writes.{setMonitors}
-use Rattle.counters.proofs.Four.{four}
+use Rattle.counters.proofs.Four.{four-elements}
 use Rattle.writes.proofs.configure.set_monitors.Statement.{statement}
 use Rattle.writes.proofs.configure.set_monitors.Tie as tie
 
@@ -39,7 +39,7 @@ returns c =
     let monitors = c .before .before .before .before .before .before .before .before .before .args .t3 in
     let size : length monitors ≡ 4 = omega arith in
     rw (
-      four freshMonitor monitors size,
+      four-elements freshMonitor monitors size,
       c .before .before .before .before .before .before .set-if-described .ensures,
       c .before .before .before .before .set-if-described2 .ensures,
       c .before .before .set-if-described3 .ensures,

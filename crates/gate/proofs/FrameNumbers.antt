@@ -7,8 +7,8 @@ use Rattle.model.specs.Request.{badFrame, known, lengthRight, asked, judge}
 use Rattle.gate.specs.FrameNumber.{frameNumber}
 
 -- each frame, and the number: whether there is a function to tell, house refusal, result, function
-abbrev pub told : List (List ℕ × ℕ)
-told =
+abbrev pub frameNumbers : List (List ℕ × ℕ)
+frameNumbers =
     -- case 2, nothing wrong; case 3, 14h with length 00h; case 5, whose phy is judged later
     (hex "40 14 00 02 00 00 00 00 00 02 00 00", 0x01000014)
     ∷ (hex "40 14 00 00 00 00 00 00 00 02 00 00", 0x01000314)
@@ -20,6 +20,6 @@ told =
     ∷ (hex "41 14 16 00", 0x01060014)
     ∷ []
 
-pub told-right : map (λ entry. frameNumber (entry .0)) told ≡ map (λ entry. entry .1) told
+pub frame-numbers-right : map (λ entry. frameNumber (entry .0)) frameNumbers ≡ map (λ entry. entry .1) frameNumbers
 unfolding frameNumber judge badFrame known lengthRight asked
-told-right = refl
+frame-numbers-right = refl

@@ -1,0 +1,35 @@
+-- `writes::configure::clear_on` meets its contract: each peak is cleared, and Expander 2h is originated where there is one.
+-- Assumes nothing.
+use borrow.Author.Needs.{needs}
+use mathlib.Core.Path.{sym, _∙_}
+use Rattle.model.specs.Writes.{clearOn}
+use Rattle.writes.proofs.configure.clear_on.Statement.{statement}
+use Rattle.writes.proofs.configure.clear_on.Tie as tie
+
+clear-monitors-requires : tie.Need-clear-monitors-requires
+clear-monitors-requires c κs = search needs
+
+any-peak-requires : tie.Need-any-peak-requires
+any-peak-requires c κs = search needs
+
+originate-requires : tie.Need-originate-requires
+originate-requires c κs = search needs
+
+returns : tie.Need-returns
+unfolding clearOn
+returns c =
+    let any = c .before .before in
+    simp (
+      any .before .clear-monitors .ensures,
+      c .originate .ensures,
+      sym (any .any-peak .ensures) ∙ c .before .if1 .taken,
+    )
+
+returns-2 : tie.Need-returns-2
+unfolding clearOn
+returns-2 c = simp (c .before .before .clear-monitors .ensures, sym (c .before .any-peak .ensures) ∙ c .if1 .left)
+
+pub clear-on-spec : {M : Type 1} → statement M
+clear-on-spec =
+    tie.close
+    (tie.spec clear-monitors-requires any-peak-requires originate-requires returns returns-2)
