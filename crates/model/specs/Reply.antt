@@ -1,4 +1,4 @@
--- "Frames": the response to each function, byte by byte. (What a request is replied, with a refusal among it, is `Reply` of `Server`.)
+-- "Frames": the response to each function, byte by byte. (The type `Reply`, a response or a house refusal, is in `Server`.)
 use Prim.Native.Nat.{ℕ, _+_, _-_, _*_}
 use mathlib.Core.Bool.{cond}
 use mathlib.Core.List.{List, [], _∷_, _++_}

@@ -52,7 +52,7 @@ abbrev pub clears : List ℕ → Bool
 clears frame = bit (byte frame 6) 0
 
 -- What a frame of a known function and a right length asks: "type in byte 2" (06h), phy in byte 9, the expected count in
--- "bytes 4 and 5" (91h and 93h), "operation in byte 10" (91h), "d in byte 11, bit 0 of byte 6 clears peaks" (93h).
+-- "bytes 4 and 5" (91h and 93h), "operation in byte 10" (91h), "d in byte 11, bit 0 of byte 6 clears peaks" (93h, the one that is left).
 unfoldable pub asked : List ℕ → Request
 asked frame =
     cond (eqb (functionOf frame) 0x00) ReportGeneral
