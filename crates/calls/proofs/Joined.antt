@@ -14,6 +14,7 @@ use Rattle.model.specs.Runs.{next, after, told, answers}
 use Rattle.model.specs.Server.{served}
 use Rattle.model.specs.Settled.{Allowed}
 use Rattle.model.specs.Shelf.{start as startOf}
+use Rattle.model.proofs.Demands.Invariant.{Sound, AllFit, after-sound}
 use Rattle.model.proofs.Demands.Isolation.{demand-3}
 use Rattle.shelf.proofs.Settled.{start-settled}
 use Rattle.shelf.proofs.start.start
@@ -29,13 +30,15 @@ use Rattle.calls.specs.Calls.{
   back,
   operation,
   got,
+  heard,
+  reported,
   RunFrom,
   operations,
   last,
   gotAll,
 }
 
--- One call: the shelf that came back is the model's next shelf,
+-- One call: the shelf that came back is the model's next shelf;
 pub back-next : (call : Call) → back call ≡ next (handed call) (operation call)
 unfolding handed back operation next served
 back-next (serve-call c) = ap (λ r. r .shelf) (c .outcome .promised .0)
@@ -45,7 +48,7 @@ back-next (reduced-functionality-call c) = c .outcome .promised
 back-next (ses-notice-call c) = c .outcome .promised
 back-next (reach-query-call c) = refl
 
--- and what a group got is what the model tells it.
+-- what a group got is what the model tells it;
 pub got-told : (g : ℕ) (call : Call) → got g call ≡ told g (handed call) (operation call)
 unfolding handed operation got told
 got-told g (serve-call c) = rw (c .outcome .promised .0, c .outcome .promised .1)
@@ -54,6 +57,16 @@ got-told g (link-change-call c) = refl
 got-told g (reduced-functionality-call c) = refl
 got-told g (ses-notice-call c) = refl
 got-told g (reach-query-call c) = rw (c .outcome .promised)
+
+-- and what a reporter was told is what the model tells him.
+pub heard-reported : (call : Call) → heard call ≡ reported (handed call) (operation call)
+unfolding handed operation heard reported
+heard-reported (serve-call c) = refl
+heard-reported (event-call c) = rw (c .outcome .promised)
+heard-reported (link-change-call c) = rw (c .outcome .promised)
+heard-reported (reduced-functionality-call c) = refl
+heard-reported (ses-notice-call c) = refl
+heard-reported (reach-query-call c) = refl
 
 -- the first of these, where the shelf that was handed in is known
 back-from : (s : Shelf) (call : Call) → handed call ≡ s → back call ≡ next s (operation call)
@@ -73,6 +86,10 @@ run-answers g s [] run = refl
 run-answers g s (call ∷ calls) (from, rest) =
     let now : got g call ≡ told g s (operation call) = got-told g call ∙ ap (λ t. told g t (operation call)) from in
     rw (now, run-answers g (back call) calls rest, back-from s call from)
+
+-- So the invariant holds of what the code returns: from a sound shelf, a run with bytes and 32-bit amounts leaves a sound one.
+pub run-sound : (s : Shelf) (calls : List Call) → RunFrom s calls → AllFit (operations calls) → Sound s → Sound (last s calls)
+run-sound s calls run fit sound = subst Sound (sym (run-last s calls run)) (after-sound s (operations calls) fit sound)
 
 -- Demand 3 of what the code returns. Two shelves were started with the same arguments, and each was then run. If what remains of the
 -- two runs is the same for a group, that group got the same in both, with all that its lent buffers then held.

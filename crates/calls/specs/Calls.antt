@@ -8,6 +8,8 @@ use lib.Dec.{eqb}
 use contract.Lifetimes.{Lfts}
 use borrow.Fn.Kinds.{PK, RK, Dens, Out}
 use Rattle.model.specs.declared.Shelf.{Shelf}
+use Rattle.model.specs.declared.Taken.{Taken}
+use Rattle.model.specs.Reports.{event as eventOf, linkChange}
 use Rattle.model.specs.Runs.{Operation, Ask, Event, LinkChange, ReducedFunctionality, Ses, QueryReach, Told, Answered, Shown}
 use Rattle.model.specs.Settled.{Allowed}
 use Rattle.reports.proofs.event
@@ -23,7 +25,8 @@ pub record CallOf {n : ℕ} (ps : List (PK n)) (r : RK n) (Post : Out n ps r) : 
   pub arguments : Dens lifetimes ps
   pub outcome : Allowed ps r Post lifetimes arguments
 
--- What can be called once a shelf is started: a request, a report or a reach query. Each takes the shelf as its first argument.
+-- What happens to a started shelf: a request, a report or a reach query. Each takes the shelf as its first argument. (A start takes none:
+-- it begins a run.)
 pub data Call : Type 0 where
   serve-call : CallOf serve.Kinds.ps serve.Kinds.r serve.Reads.Post → Call
   event-call : CallOf event.Kinds.ps event.Kinds.r event.Reads.Post → Call
@@ -70,6 +73,23 @@ got g (link-change-call c) = []
 got g (reduced-functionality-call c) = []
 got g (ses-notice-call c) = []
 got g (reach-query-call c) = cond (eqb (c .arguments .1 .0) g) (Shown (c .outcome .result) ∷ []) []
+
+-- What the reporter of an event or a link change was told, read off the outcome; and what the model tells him.
+unfoldable pub heard : Call → List Taken
+heard (serve-call c) = []
+heard (event-call c) = c .outcome .result .taken ∷ []
+heard (link-change-call c) = c .outcome .result .taken ∷ []
+heard (reduced-functionality-call c) = []
+heard (ses-notice-call c) = []
+heard (reach-query-call c) = []
+
+unfoldable pub reported : Shelf → Operation → List Taken
+reported s (Ask g frame out) = []
+reported s (Event p source amount) = eventOf s p source amount .taken ∷ []
+reported s (LinkChange p) = linkChange s p .taken ∷ []
+reported s ReducedFunctionality = []
+reported s Ses = []
+reported s (QueryReach g) = []
 
 -- A run of the code from a shelf: each call is handed the shelf that came back from the one before.
 unfoldable pub RunFrom : Shelf → List Call → Type 0

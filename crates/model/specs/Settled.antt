@@ -2,8 +2,12 @@
 -- too. Show that no two differing outcomes satisfy it". The next state is part of the result: a shelf goes in and comes back by value.
 --
 -- A promise is taken as the toolchain reads it off the function's source, so that nothing is typed a second time: `Kinds` of a function
--- has the kinds of its parameters (ps) and of its result (r), `Reads` what it asks of its caller (`Pre`) and what it promises (`Post`).
--- κs are the lifetimes of what is lent, a the arguments.
+-- has the kinds of its parameters (ps) and of its result (r), `Reads` what it may assume (`Pre`) and must show (`Post`). Every clause here
+-- is a plain ⌜ ⌝, so these are also what its caller shows and learns. κs are the lifetimes of what is lent, a the arguments.
+--
+-- A promise that nothing can keep would be settled too; that one outcome keeps it is the function's own proof, since it always returns.
+-- The arguments have in them where lent memory lies; that no answer depends on it is `run-answers` of the crate `calls`. No public
+-- function gives a reference back, so what each `&mut` holds at the exit is known.
 use Prim.Native.Nat.{ℕ}
 use mathlib.Core.Path.{_≡_}
 use mathlib.Core.List.{List}

@@ -85,9 +85,9 @@ controlled-effect s frame expected p operation h =
     }
 
 -- no two shelves are left by one of the four operations
-pub controlled-settled : {s t u : Shelf} {p operation : ℕ} → List·Memᴰ operation knownOperations
+pub controlled-one-shelf : {s t u : Shelf} {p operation : ℕ} → List·Memᴰ operation knownOperations
     → Controlled s p operation t → Controlled s p operation u → t ≡ u
-controlled-settled {s} {t} {u} {p} {operation} known a b =
+controlled-one-shelf {s} {t} {u} {p} {operation} known a b =
     by-each (t ≡ u) operation knownOperations known
     (λ e. a .none e ∙ sym (b .none e))
     (λ e. alike (a .link-reset e) (b .link-reset e))
@@ -314,9 +314,9 @@ expander2-is {s} {t} {p} {frame} c =
       λ none. c .not-originated (λ clear i l top. none (finds .1 (clear, (i, rw (c .number) l, top)))),
     )
 
-pub configured-settled : {s t u : Shelf} {p : ℕ} {frame : List ℕ}
+pub configured-one-shelf : {s t u : Shelf} {p : ℕ} {frame : List ℕ}
     → Configured s p frame t → Configured s p frame u → t ≡ u
-configured-settled {s} {t} {u} {p} {frame} a b =
+configured-one-shelf {s} {t} {u} {p} {frame} a b =
     let monitors : phyAt t p .monitors ≡ phyAt u p .monitors =
     ext-getD freshMonitor _ _ (a .number ∙ sym (b .number))
     (λ i h.
