@@ -5,6 +5,7 @@ pub mod Refusals
 pub mod Results
 pub mod Writes
 pub mod Effects
+pub mod Fits
 pub mod Frames
 pub mod Invariant
 pub mod ChangeCount

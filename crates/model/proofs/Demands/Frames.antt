@@ -29,7 +29,7 @@ use Rattle.model.specs.Request.{functionOf, known, asked}
 use Rattle.model.specs.Results.{resultCode}
 use Rattle.model.specs.Server.{Sends, handle}
 use Rattle.model.specs.Shelf.{phyNumber, noPhy, phyAt, freshMonitor}
-use Rattle.model.proofs.Demands.Invariant.{BytesFit, Fits}
+use Rattle.model.proofs.Demands.Fits.{BytesFit, Fits}
 use Rattle.model.proofs.Laws.Handled.{verdict, sent-all, accepted-decided}
 use Rattle.model.proofs.Laws.Join.{join-few}
 use Rattle.model.proofs.Laws.Places.{All, all-each, each-all, cut-each, sets-each, sets-before, replicate-each}
