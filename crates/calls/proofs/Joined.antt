@@ -1,6 +1,6 @@
 -- The two halves joined. The code keeps its promises, and the model's runs meet the demands. Here: a run of the code goes, call by call,
--- exactly as the model's run (`run-last`, `run-answers`), and so demand 3 holds of what the code returns (`calls-demand-3`).
--- Assumes nothing.
+-- exactly as the model's run (`run-last`, `run-answers`, and for reporters `heard-reported`), and so the invariant and demand 3 hold of what
+-- the code returns (`run-sound`, `calls-demand-3`). Assumes nothing.
 use Prim.Native.Nat.{ℕ}
 use mathlib.Core.Path.{_≡_, refl, sym, ap, subst, _∙_}
 use mathlib.Core.List.{List, [], _∷_}

@@ -2,4 +2,4 @@
 // query say of a whole run.
 //
 // There is no function here. What a run of calls is, is in specs/; that it goes as the model's runs go,
-// and that demand 3 so holds of what the code returns, is in proofs/.
+// and that the invariant and demand 3 so hold of what the code returns, is in proofs/.

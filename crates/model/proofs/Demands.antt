@@ -1,6 +1,7 @@
 -- What the request demands, as theorems over the definitions.
 
--- demands 1 and 2: the house refusals, the function results, the writes' effects, the response frames, and what every operation keeps
+-- demands 1 and 2: the house refusals, the function results, the writes and their effects, what fits, the response frames, what every
+-- operation keeps, what moves the change count, and that every request and report has one outcome
 pub mod Refusals
 pub mod Results
 pub mod Writes

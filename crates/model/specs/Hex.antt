@@ -1,4 +1,5 @@
--- Bytes as document 01 writes them: two hexadecimal digits each, with a space between. Used by the checked lists alone.
+-- Bytes as document 01 writes them: two hexadecimal digits each, with a space between. For frames that
+-- are written out, in the checked lists and in `Demands/OnShelfW`; no definition of the document uses it.
 use Prim.Native.Nat.{ℕ, _+_, _-_, _*_}
 use Prim.Native.Char.{code}
 use Prim.Native.String.{String}

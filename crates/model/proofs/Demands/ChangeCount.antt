@@ -50,14 +50,14 @@ still s t phys count =
 
 step-together : (s t : Shelf) → Step Changes s t → Together s t
 step-together s t (Stays e) = still s t (ap (λ u. u .phys) e) (ap (λ u. u .changes) e)
-step-together s t (ChangesPhy p f moves placed changes e) =
+step-together s t (ChangesPhy p f moves there changes e) =
     let x : Phy = phyAt s p in
     let n : ℕ = originateIf (moves x) (s .changes) in
     rw e
     (record {
       originates = moves x;
       phy = p;
-      there = λ moving. placed;
+      there = λ moving. there;
       count = refl;
       here = λ h. ap (λ y. y .change0) (put-same s p (f x) n h) ∙ changes x;
       others = λ q apart. ap (λ y. y .change0) (put-other s p (f x) n q apart);

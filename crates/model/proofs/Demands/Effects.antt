@@ -10,7 +10,7 @@ use mathlib.Core.List.{List, [], _∷_, map, List·Memᴰ}
 use borrow.Author.Tests.{ltb-true, ltb-false, lt-ltb, le-ltb, eqb-true, eqb-false, eq-eqb}
 use lib.Dec.{T, ltb, eqb}
 use lib.ListN.{length, getD, replicate, length-map, List·getD-map}
-use lib.Seq.{ext-getD, getD-set-same, set-getD}
+use lib.Seq.{ext-getD, set-getD}
 use Rattle.model.specs.declared.Monitor.{Monitor}
 use Rattle.model.specs.declared.Phy.{Phy}
 use Rattle.model.specs.declared.Request.the-variants.{PhyControl, ConfigurePhyEvent}
@@ -23,9 +23,9 @@ use Rattle.model.specs.Shelf.{noPhy, phyAt, monitor, phyWith, shelfWith,
 use Rattle.model.specs.Sources.{peak}
 use Rattle.model.specs.Writes.{controlled, controlChanges, setMonitor, setMonitors, withMonitors, setOn, clearMonitor}
 use Rattle.model.specs.Writes.{anyPeak, clearOn, configured, effect}
-use Rattle.model.proofs.Laws.Tests.{and-iff, not-both-iff, both-iff, cond-iff, eqb-iff, by-each}
+use Rattle.model.proofs.Laws.Tests.{and-iff, not-both-iff, both-iff, cond-iff, cond-both, eqb-iff, by-each}
 use Rattle.model.proofs.Plain.Results.{knownOperations}
-use Rattle.model.proofs.Plain.Shelf.{OnlyPhy, put-only}
+use Rattle.model.proofs.Plain.Shelf.{OnlyPhy, put-same, put-only}
 use Rattle.model.proofs.Plain.Writes.{set-length, set-at, HasPeak, anyPeak-iff}
 
 -- Two shelves that differ from s in phy p and in the change count at most, and agree in these, are one.
@@ -78,10 +78,10 @@ controlled-effect s frame expected p operation h =
     record {
       only = put-only s p _ _;
       none = λ e. rw (e, set-getD);
-      link-reset = λ e. rw e (getD-set-same (s .phys) p _ noPhy h, refl);
-      disable = λ e on. rw (e, on) (getD-set-same (s .phys) p _ noPhy h, refl);
+      link-reset = λ e. rw e (put-same s p _ (s .changes) h, refl);
+      disable = λ e on. rw (e, on) (put-same s p _ (s .changes) h, refl);
       disabled-already = λ e off. rw (e, off, set-getD);
-      clear-errors = λ e. rw e (getD-set-same (s .phys) p _ noPhy h, refl);
+      clear-errors = λ e. rw e (put-same s p _ (s .changes) h, refl);
     }
 
 -- no two shelves are left by one of the four operations
@@ -241,11 +241,8 @@ cleared-at false ms i = refl
 cleared-peaks : (ms : List Monitor) → anyPeak (map clearMonitor ms) ≡ anyPeak ms
 unfolding anyPeak clearMonitor
 cleared-peaks [] = refl
-cleared-peaks (m ∷ ms) = rw (cleared-peaks ms, source (peak (m .source)))
-  where
-    source : (top : Bool) → cond top (withValue m 0) m .source ≡ m .source
-    source true = refl
-    source false = refl
+cleared-peaks (m ∷ ms) =
+    rw (cleared-peaks ms, cond-both (λ x. x .source ≡ m .source) (peak (m .source)) (withValue m 0) m refl refl)
 
 -- ---- the phy
 
@@ -284,7 +281,7 @@ unfolding effect
 configured-effect s frame expected p h =
     let x : Phy = phyAt s p in
     let ms : List Monitor = monitorsAfter frame x in
-    let new = getD-set-same (s .phys) p (configured frame (byte frame 11) (clears frame) x) noPhy h ∙ configured-is frame x in
+    let new = put-same s p (configured frame (byte frame 11) (clears frame) x) (s .changes) h ∙ configured-is frame x in
     let (finding, missing) = cond-iff (clears frame && anyPeak ms) _ (originate (x .expander2)) (x .expander2) .0 refl in
     record {
       only = put-only s p _ _;

@@ -151,15 +151,9 @@ module _ (frame : List ℕ) (fit : BytesFit frame) where
 
 -- ---- one phy
 
--- x became y: its numbers fit if they did, and its group is the same
+-- x became y: its numbers fit if they did
 abbrev pub FitsOn : Phy → Phy → Type 0
-FitsOn x y = (PhyFits x → PhyFits y) × (y .group ≡ x .group)
-
-pub fits-same : (x : Phy) → FitsOn x x
-fits-same x = (λ f. f, refl)
-
-pub fits-then : (x y z : Phy) → FitsOn x y → FitsOn y z → FitsOn x z
-fits-then x y z first second = (λ f. second .0 (first .0 f), second .1 ∙ first .1)
+FitsOn x y = PhyFits x → PhyFits y
 
 -- other numbers in it, from what each keeps
 fits-with : (x : Phy) {enabled : Bool} {errors : List ℕ} {ms : List Monitor} {change0 expander1 expander2 : ℕ}
@@ -169,20 +163,17 @@ fits-with : (x : Phy) {enabled : Bool} {errors : List ℕ} {ms : List Monitor} {
     → (x .expander1 ≤ 0xFFFF → expander1 ≤ 0xFFFF)
     → (x .expander2 ≤ 0xFFFF → expander2 ≤ 0xFFFF)
     → FitsOn x (phyWith x enabled errors ms change0 expander1 expander2)
-fits-with x es fs c0 e1 e2 = (
-  λ f.
-      record {
-        group = f .group;
-        errors-size = es (f .errors-size, f .errors) .0;
-        errors = es (f .errors-size, f .errors) .1;
-        monitors-size = fs (f .monitors-size, f .monitors) .0;
-        monitors = fs (f .monitors-size, f .monitors) .1;
-        change0 = c0 (f .change0);
-        expander1 = e1 (f .expander1);
-        expander2 = e2 (f .expander2);
-      },
-  refl,
-)
+fits-with x es fs c0 e1 e2 f =
+    record {
+      group = f .group;
+      errors-size = es (f .errors-size, f .errors) .0;
+      errors = es (f .errors-size, f .errors) .1;
+      monitors-size = fs (f .monitors-size, f .monitors) .0;
+      monitors = fs (f .monitors-size, f .monitors) .1;
+      change0 = c0 (f .change0);
+      expander1 = e1 (f .expander1);
+      expander2 = e2 (f .expander2);
+    }
 
 pub event-keeps : (source amount : ℕ) → amount ≤ 0xFFFFFFFF → (x : Phy) → FitsOn x (eventOn source amount x)
 unfolding eventOn
@@ -205,9 +196,9 @@ pub control-keeps : (operation : ℕ) (x : Phy) → FitsOn x (controlled operati
 unfolding controlled
 control-keeps operation x =
     cond-both (FitsOn x) (eqb operation 0x01) _ _ (change-keeps true x)
-    (cond-both (FitsOn x) (eqb operation 0x03) _ _ (cond-both (FitsOn x) (x .enabled) _ _ (change-keeps false x) (fits-same x))
+    (cond-both (FitsOn x) (eqb operation 0x03) _ _ (cond-both (FitsOn x) (x .enabled) _ _ (change-keeps false x) (λ f. f))
     (cond-both (FitsOn x) (eqb operation 0x05) _ _ (without-errors-keeps x)
-    (fits-same x)))
+    (λ f. f)))
 
 set-keeps : (frame : List ℕ) → BytesFit frame → (d : ℕ) (x : Phy) → FitsOn x (setOn frame d x)
 unfolding setOn
@@ -225,7 +216,7 @@ pub configure-keeps : (frame : List ℕ) → BytesFit frame → (d : ℕ) (clear
 unfolding configured
 configure-keeps frame fit d clear x =
     let set : FitsOn x (setOn frame d x) = set-keeps frame fit d x in
-    cond-both (FitsOn x) clear _ _ (fits-then x _ _ set (clear-keeps (setOn frame d x))) set
+    cond-both (FitsOn x) clear _ _ (λ f. clear-keeps (setOn frame d x) (set f)) set
 
 -- ---- a fresh phy
 

@@ -16,11 +16,11 @@ use Rattle.model.specs.Reach.{reaches}
 use Rattle.model.specs.Runs.{Operation, Ask, Event, LinkChange, ReducedFunctionality, Ses, QueryReach, next, after}
 use Rattle.model.specs.Shelf.{phyAt, freshPhy, startGroup, freshShelf, startTaken, start}
 use Rattle.model.specs.Zone.{row}
-use Rattle.model.proofs.Demands.Fits.{BytesFit, Fits, FitsOn, fits-same, fits-then, fresh-fits}
+use Rattle.model.proofs.Demands.Fits.{BytesFit, Fits, FitsOn, fresh-fits}
 use Rattle.model.proofs.Demands.Fits.{originated-fits, originated-present, event-keeps, change-keeps, control-keeps, configure-keeps}
 use Rattle.model.proofs.Laws.Join.{join-length}
 use Rattle.model.proofs.Laws.Places.{All}
-use Rattle.model.proofs.Laws.Steps.{Step, KeptBy, next-step, step-fixed, step-phys, Counts, step-counts}
+use Rattle.model.proofs.Laws.Steps.{Step, KeptBy, next-step, step-fixed, step-phys, Counts, step-counts, SameZones, next-zones}
 use Rattle.model.proofs.Laws.Tests.{cond-by}
 use Rattle.model.proofs.Plain.Reach.{reaches-nothing}
 use Rattle.model.proofs.Plain.Shelf.{SameFixed}
@@ -72,9 +72,6 @@ count-fits : (before after : ℕ) → (b : Bool) × (after ≡ originateIf b bef
 count-fits before after (b, e) h = rw e (originated-fits b before h)
 
 module _ (s t : Shelf) (step : Step KeepsFit s t) where
-  phys-fit-on : (p : ℕ) → FitsOn (phyAt s p) (phyAt t p)
-  phys-fit-on = step-phys KeepsFit FitsOn fits-same (λ f moves keeps x y kept. fits-then x y (f y) kept (keeps y)) s t step
-
   step-fits : Fits s → Fits t
   step-fits f =
       let fixed : SameFixed s t = step-fixed KeepsFit s t step in
@@ -82,7 +79,8 @@ module _ (s t : Shelf) (step : Step KeepsFit s t) where
       record {
         number = rw (fixed .number) (f .number);
         phys-size = counts .size ∙ f .phys-size;
-        phys = λ p below. phys-fit-on p .0 (f .phys p below);
+        phys = λ p below.
+            step-phys KeepsFit FitsOn (λ x fit. fit) (λ h moves keeps x y kept fit. keeps y (kept fit)) s t step p (f .phys p below);
         table-size = rw (fixed .table) (f .table-size);
         table = rw (fixed .table) (f .table);
         identifier-size = rw (fixed .identifier) (f .identifier-size);
@@ -103,12 +101,12 @@ next-fits s o fit = step-fits s (next s o) (next-step KeepsFit s o (fit-kept o f
 pub next-sound : (s : Shelf) (o : Operation) → OperationFits o → Sound s → Sound (next s o)
 next-sound s o fit sound =
     let step : Step KeepsFit s (next s o) = next-step KeepsFit s o (fit-kept o fit) in
-    let fixed : SameFixed s (next s o) = step-fixed KeepsFit s (next s o) step in
+    let zones : SameZones s (next s o) = next-zones s o in
     record {
       fits = step-fits s (next s o) step (sound .fits);
-      number = rw (fixed .number) (sound .number);
-      groups = λ p below. rw (phys-fit-on s (next s o) step p .1) (sound .groups p below);
-      legal = rw (fixed .table) (sound .legal);
+      number = rw (zones .fixed .number) (sound .number);
+      groups = λ p below. rw (zones .groups p) (sound .groups p below);
+      legal = rw (zones .fixed .table) (sound .legal);
       present = step-present s (next s o) step (sound .fits) (sound .present);
     }
 

@@ -46,18 +46,11 @@ module _ (r : ℕ) where
   seen-hidden x e = rw e
 
   seen-none : seen r noPhy ≡ noPhy
-  seen-none = go (rowReaches r 0)
+  seen-none = go (rowReaches r 0) refl
     where
-      go : (b : Bool)
-          → phyWith noPhy true
-          (cond b (noPhy .errors) (noPhy .errors))
-          (cond b (noPhy .monitors) (noPhy .monitors))
-          (cond b 0 0)
-          (cond b 0 0)
-          (cond b 0 0)
-          ≡ noPhy
-      go true = refl
-      go false = refl
+      go : (b : Bool) → rowReaches r 0 ≡ b → seen r noPhy ≡ noPhy
+      go true e = seen-reached noPhy e
+      go false e = seen-hidden noPhy e
 
   -- how a change looks that keeps the group, and makes enabled or not by that alone, depends on how the phy looked
   seen-change : (f : Phy → Phy) (enables : Bool → Bool) → Inner f enables → (x : Phy)
@@ -173,30 +166,15 @@ module _ (g : ℕ) (s t : Shelf) where
       phys p = sym (looks-phy g s p) ∙ ap (λ u. phyAt u p) e ∙ looks-phy g t p
 
   fields-same : LooksSame g s t → looks g s ≡ looks g t
-  fields-same e = λ i.
-      record {
-        number = e .number i;
-        phys = phys i;
-        table = e .table i;
-        identifier = e .identifier i;
-        changes = e .changes i;
-        expander3 = e .expander3 i;
-        ses0 = e .ses0 i;
-      }
+  fields-same e = rw (phys, e .number, e .table, e .identifier, e .changes, e .expander3, e .ses0)
     where
       reach : (p : ℕ) → reaches t g p ≡ reaches s g p
       reach p = sym (ap₂ (λ table x. rowReaches (row table g) x) (e .table) (e .groups p))
 
       each : (p : ℕ) → (b : Bool) → reaches s g p ≡ b
           → seen (row (s .table) g) (phyAt s p) ≡ seen (row (t .table) g) (phyAt t p)
-      each p true here =
-          seen-reached (row (s .table) g) (phyAt s p) here
-          ∙ e .reached p (rw here tt)
-          ∙ sym (seen-reached (row (t .table) g) (phyAt t p) (reach p ∙ here))
-      each p false out =
-          seen-hidden (row (s .table) g) (phyAt s p) out
-          ∙ ap₂ hidden (e .groups p) (e .enabled p)
-          ∙ sym (seen-hidden (row (t .table) g) (phyAt t p) (reach p ∙ out))
+      each p true here = rw (here, reach p ∙ here) (e .reached p (rw here tt))
+      each p false out = rw (out, reach p ∙ out) (ap₂ hidden (e .groups p) (e .enabled p))
 
       phys : looks g s .phys ≡ looks g t .phys
       phys =

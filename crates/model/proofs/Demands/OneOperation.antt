@@ -2,7 +2,7 @@
 -- alone. Assumes nothing.
 use Prim.Native.Nat.{ℕ}
 use mathlib.Core.Path.{_≡_, refl, ap, fun-ext}
-use mathlib.Core.Bool.{Bool, true, false, cond}
+use mathlib.Core.Bool.{true, cond}
 use mathlib.Core.List.{List, [], _∷_, _++_}
 use borrow.Author.Tests.{eqb-true}
 use lib.Dec.{eqb}
@@ -22,13 +22,14 @@ use Rattle.model.specs.Results.{accepted, resultOf, decide}
 use Rattle.model.specs.Runs.{Operation, Ask, Event, LinkChange, ReducedFunctionality, Ses, QueryReach, next, told}
 use Rattle.model.specs.Runs.{Told, Answered, Shown}
 use Rattle.model.specs.Server.{Handled, Sends, handle, lent, answer, served, lentAfter}
-use Rattle.model.specs.Shelf.{phyNumber, exists, phyAt, shelfWith, outcome}
+use Rattle.model.specs.Shelf.{phyNumber, exists, shelfWith, outcome}
 use Rattle.model.specs.Tests.{joinBelow}
 use Rattle.model.specs.Writes.{controlled, controlChanges, configured, effect}
 use Rattle.model.proofs.Demands.Looks.{looks, looks-reaches, looks-reached, looks-twice, looks-change}
 use Rattle.model.proofs.Laws.Checks.{both-outcomes, read-passed}
 use Rattle.model.proofs.Laws.Handled.{verdict, both-handled, both-concluded, accepted-decided}
 use Rattle.model.proofs.Laws.PhyChanges.{enablesBy, event-inner, change-inner, configured-inner, controlled-inner}
+use Rattle.model.proofs.Laws.Picked.{onlyIf-same}
 use Rattle.model.proofs.Plain.Reply.{ofPhy}
 
 -- ---- judging
@@ -43,7 +44,7 @@ module _ (g : ℕ) (s : Shelf) where
   unfolding verdict
   looks-verdict h frame = rw (looks-decides h frame (asked frame))
 
-  -- ---- writes and reports
+  -- ---- the effect of a request
 
   looks-effect : (frame : List ℕ) (request : Request)
       → looks g (effect (looks g s) frame request) ≡ looks g (effect s frame request)
@@ -68,12 +69,9 @@ module _ (g : ℕ) (s : Shelf) where
   looks-broadcasts kind = ap (λ of. deviceListed kind (s .expander3) (s .ses0) ++ joinBelow (phyNumber s) of) (fun-ext each)
     where
       each : (p : ℕ) → ofPhy (looks g s) g kind p ≡ ofPhy s g kind p
-      each p = rw (looks-reaches g s g p) (go (reaches s g p) refl)
-        where
-          go : (b : Bool) → reaches s g p ≡ b
-              → cond b (phyListed kind p (phyAt (looks g s) p)) [] ≡ cond b (phyListed kind p (phyAt s p)) []
-          go true e = ap (phyListed kind p) (looks-reached g s p e)
-          go false e = refl
+      each p =
+          rw (looks-reaches g s g p)
+          (onlyIf-same (reaches s g p) _ _ (λ e. ap (phyListed kind p) (looks-reached g s p e)))
 
   looks-respond : (frame : List ℕ) (request : Request) → accepted (decide s g frame request) ≡ true
       → respond (looks g s) g request ≡ respond s g request
@@ -140,11 +138,8 @@ module _ (g : ℕ) (s : Shelf) where
 
   -- what g is told: the same of its own, and nothing of another's
   same-own : (h : ℕ) (x y : Told) → (h ≡ g → x ≡ y) → cond (eqb h g) (x ∷ []) [] ≡ cond (eqb h g) (y ∷ []) []
-  same-own h x y same = go (eqb h g) refl
-    where
-      go : (b : Bool) → eqb h g ≡ b → cond b (x ∷ []) [] ≡ cond b (y ∷ []) []
-      go true e = ap (λ told. told ∷ []) (same (eqb-true h g e))
-      go false e = refl
+  same-own h x y same =
+      onlyIf-same (eqb h g) (x ∷ []) (y ∷ []) (λ e. ap (λ told. told ∷ []) (same (eqb-true h g e)))
 
   pub looks-told : (operation : Operation) → told g (looks g s) operation ≡ told g s operation
   unfolding told served lentAfter

@@ -71,11 +71,11 @@ unfolding start
 start-gives n groups table identifier =
     rw (outcome-taken, start-number n groups table)
     (row-gives (startTests n groups table) (startRefusals n groups table) 1 (omega arith)
-    (denied-iff (within 1 24 n) (within-iff 1 24 n), (groups-iff, (denied-iff (legalTable table) (legal-table table), tt))))
+    (denied-iff (within 1 24 n) (within-iff 1 24 n), (some-group-iff, (denied-iff (legalTable table) (legal-table table), tt))))
   where
-    groups-iff : T (not (groupsFit n groups))
+    some-group-iff : T (not (groupsFit n groups))
         ↔ ((p : ℕ) × (p < n) × (31 < getD groups p 0))
-    groups-iff =
+    some-group-iff =
         Iff·trans (some-below-iff n (λ p. zoneGroup (getD groups p 0))) (
           λ h. (h .0, h .1, above-iff (getD groups (h .0) 0) 31 .0 (h .2)),
           λ h. (h .0, h .1, above-iff (getD groups (h .0) 0) 31 .1 (h .2)),

@@ -1,7 +1,6 @@
 -- A run's answers to a group are those of what remains of it. Assumes nothing.
 use Prim.Native.Nat.{ℕ}
 use mathlib.Core.Path.{_≡_, refl, sym, ap, ap₂, _∙_}
-use mathlib.Core.Bool.{Bool, true, false, cond}
 use mathlib.Core.List.{List, [], _∷_, _++_}
 use lib.Dec.{T}
 use Rattle.model.specs.declared.Shelf.{Shelf}
@@ -11,6 +10,7 @@ use Rattle.model.proofs.Demands.Looks.{looks}
 use Rattle.model.proofs.Demands.OneOperation.{looks-next, looks-told}
 use Rattle.model.proofs.Demands.Unseen.{crossed-unseen, crossed-untold, crossed-zones}
 use Rattle.model.proofs.Laws.Steps.{SameZones, next-zones, zones-on}
+use Rattle.model.proofs.Laws.Tests.{cond-by}
 
 -- ---- Two shelves that look the same to g give it the same answers, whatever happens.
 
@@ -40,19 +40,15 @@ remains-step : (g : ℕ) (s₀ s : Shelf) (operation : Operation) (operations : 
     → answers g (next s operation) operations ≡ answers g (next s operation) (remains g s₀ operations)
     → answers g s (operation ∷ operations) ≡ answers g s (remains g s₀ (operation ∷ operations))
 unfolding answers remains
-remains-step g s₀ s operation operations zones later = go (crossedOut g s₀ operation) refl
-  where
-    rest : List Operation
-    rest = remains g s₀ operations
-
-    go : (b : Bool) → crossedOut g s₀ operation ≡ b
-        → told g s operation ++ answers g (next s operation) operations ≡ answers g s (cond b rest (operation ∷ rest))
-    go true e =
-        let crossed : T (crossedOut g s operation) = rw (crossed-zones g s₀ s operation zones, e) tt in
-        ap (λ first. first ++ answers g (next s operation) operations) (crossed-untold g s operation crossed)
-        ∙ later
-        ∙ same-answers g (next s operation) s rest (crossed-unseen g s operation crossed)
-    go false e = ap (λ then. told g s operation ++ then) later
+remains-step g s₀ s operation operations zones later =
+    let rest : List Operation = remains g s₀ operations in
+    cond-by (λ left. told g s operation ++ answers g (next s operation) operations ≡ answers g s left) (crossedOut g s₀ operation) rest (operation ∷ rest)
+    (λ e.
+    let crossed : T (crossedOut g s operation) = rw (crossed-zones g s₀ s operation zones, e) tt in
+    ap (λ first. first ++ answers g (next s operation) operations) (crossed-untold g s operation crossed)
+    ∙ later
+    ∙ same-answers g (next s operation) s rest (crossed-unseen g s operation crossed))
+    (λ e. ap (λ then. told g s operation ++ then) later)
 
 pub remains-answers : (g : ℕ) (s₀ s : Shelf) (operations : List Operation) → SameZones s₀ s
     → answers g s operations ≡ answers g s (remains g s₀ operations)

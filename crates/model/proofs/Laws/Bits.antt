@@ -12,7 +12,7 @@ use lib.Dec.{T, ltb, eqb}
 use lib.Pow.{pow-mono, high, low, field, mod-mod-pow}
 use Rattle.model.specs.Tests.{sumBelow}
 use Rattle.model.specs.Zone.{bit}
-use Rattle.model.proofs.Laws.Tests.{below-suc}
+use Rattle.model.proofs.Laws.Tests.{below-suc, cond-both}
 
 abbrev pub powers : ℕ → (ℕ → Bool) → ℕ
 powers n test = sumBelow n (λ p. cond (test p) (2 ^ p) 0)
@@ -32,11 +32,9 @@ powers-suc n test = above (test n) n (powers n test)
 powers-lt : (n : ℕ) (test : ℕ → Bool) → powers n test < 2 ^ n
 unfolding sumBelow
 powers-lt zero test = omega arith
-powers-lt (suc n) test = grow (test n) (powers-lt n test)
-  where
-    grow : (b : Bool) → powers n test < 2 ^ n → powers n test + cond b (2 ^ n) 0 < 2 ^ suc n
-    grow true h = rw pow-suc (omega arith)
-    grow false h = rw pow-suc (omega arith)
+powers-lt (suc n) test =
+    let earlier : powers n test < 2 ^ n = powers-lt n test in
+    cond-both (λ k. powers n test + k < 2 ^ suc n) (test n) (2 ^ n) 0 (rw pow-suc (omega arith)) (rw pow-suc (omega arith))
 
 -- .. and so below any larger power
 pub powers-fit : (k n : ℕ) (test : ℕ → Bool) → n ≤ k → powers n test < 2 ^ k
@@ -95,7 +93,7 @@ bit-powers (suc n) test p h =
     h
 
 bit-powers-past : (n : ℕ) (test : ℕ → Bool) (p : ℕ) → n ≤ p → bit (powers n test) p ≡ false
-bit-powers-past n test p h = bit-past (powers n test) p (lt-of-lt-of-le (powers-lt n test) (pow-mono h))
+bit-powers-past n test p h = bit-past (powers n test) p (powers-fit p n test h)
 
 pub bit-powers-iff : (n : ℕ) (test : ℕ → Bool) (p : ℕ) → T (bit (powers n test) p) ↔ (T (ltb p n) × T (test p))
 bit-powers-iff n test p = go (ltb p n) refl

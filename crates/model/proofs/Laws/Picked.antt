@@ -26,6 +26,11 @@ pub onlyIf-iff : {A : Type 0} (b : Bool) (xs : List A) {a : A}
 onlyIf-iff true xs = (λ m. (tt, m), λ h. h .1)
 onlyIf-iff false xs = (λ m. absurd (List·Memᴰ·not-nil m), λ h. absurd (h .0))
 
+-- two that are the same where the test holds are the same
+pub onlyIf-same : {A : Type 0} (b : Bool) (xs ys : List A) → (b ≡ true → xs ≡ ys) → onlyIf b xs ≡ onlyIf b ys
+onlyIf-same true xs ys same = same refl
+onlyIf-same false xs ys same = refl
+
 pub picked-iff : (n : ℕ) (test : ℕ → Bool) (p : ℕ) → List·Memᴰ p (picked n test) ↔ ((p < n) × T (test p))
 picked-iff n test p = (
   λ m.

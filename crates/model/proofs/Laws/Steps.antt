@@ -24,7 +24,7 @@ use Rattle.model.proofs.Laws.Handled.{handled-all, accepted-decided}
 use Rattle.model.proofs.Laws.PhyChanges.{event-inner, change-inner, configured-inner, controlled-inner}
 use Rattle.model.proofs.Laws.Places.{change-at}
 use Rattle.model.proofs.Plain.Reports.{event-done, link-change-done}
-use Rattle.model.proofs.Plain.Shelf.{SameFixed, same-fixed, put-fixed, device-fixed}
+use Rattle.model.proofs.Plain.Shelf.{SameFixed, with-fixed}
 
 -- From s to t. A change of a phy is what becomes of the phy, and whether that moves the change count; each keeps what is asked.
 pub data Step (Keeps : (Phy → Phy) → (Phy → Bool) → Type 0) (s t : Shelf) : Type 0 where
@@ -78,10 +78,9 @@ module _ (Keeps : (Phy → Phy) → (Phy → Bool) → Type 0) (s : Shelf) where
 
 -- What no step changes: the phy number, the table and the identifier.
 pub step-fixed : (Keeps : (Phy → Phy) → (Phy → Bool) → Type 0) (s t : Shelf) → Step Keeps s t → SameFixed s t
-step-fixed Keeps s t (Stays e) = rw e (same-fixed s)
-step-fixed Keeps s t (ChangesPhy p f moves there keeps e) =
-    rw e (put-fixed s p (f (phyAt s p)) (originateIf (moves (phyAt s p)) (s .changes)))
-step-fixed Keeps s t (CountsNotice a b e) = rw e (device-fixed s (originateIf a (s .expander3)) (originateIf b (s .ses0)))
+step-fixed Keeps s t (Stays e) = rw e (with-fixed s)
+step-fixed Keeps s t (ChangesPhy p f moves there keeps e) = rw e (with-fixed s)
+step-fixed Keeps s t (CountsNotice a b e) = rw e (with-fixed s)
 
 -- What holds between a phy and itself, and still after each change, holds between each phy before the step and after it.
 pub step-phys : (Keeps : (Phy → Phy) → (Phy → Bool) → Type 0) (R : Phy → Phy → Type 0) → ((x : Phy) → R x x)
@@ -121,7 +120,7 @@ pub record SameZones (s t : Shelf) : Type 0 where
   pub groups : (p : ℕ) → phyAt t p .group ≡ phyAt s p .group
 
 pub zones-same : (s : Shelf) → SameZones s s
-zones-same s = record { fixed = same-fixed s; groups = λ p. refl }
+zones-same s = record { fixed = with-fixed s; groups = λ p. refl }
 
 pub zones-on : (s t u : Shelf) → SameZones s t → SameZones t u → SameZones s u
 zones-on s t u first then =

@@ -3,7 +3,7 @@ use Prim.Native.Nat.{ℕ, zero, suc, _≤_, _<_}
 use native.Mathlib.Nat.{not-suc-le-zero, not-le-of-lt, lt-of-not-le, le-of-suc-le-suc, eq-or-lt-of-le}
 use native.Mathlib.Omega.{arith}
 use mathlib.Core.Path.{_≡_, refl, subst⁻¹}
-use mathlib.Core.Logic.{_↔_, _⊎_, inl, inr, ⊎-elim, Iff·trans, Iff·symm, Iff·and, Iff·not}
+use mathlib.Core.Logic.{_↔_, _⊎_, inl, inr, ⊎-elim, ⊎-map, Iff·trans, Iff·symm, Iff·and, Iff·not}
 use mathlib.Core.Bool.{Bool, true, false, not, cond, _&&_, _||_, Bool·beq, or-assoc, true≢false, false≢true}
 use mathlib.Core.List.{List, [], _∷_, List·Memᴰ, List·Memᴰ·head, List·Memᴰ·tail, List·Memᴰ·cases-cons}
 use mathlib.Core.List.{List·Memᴰ·not-nil}
@@ -71,11 +71,7 @@ all-three-iff a b c f g h = (
 )
 
 pub either-iff : (a b : Bool) {A B : Type 0} → T a ↔ A → T b ↔ B → T (a || b) ↔ (A ⊎ B)
-either-iff a b f g = Iff·trans (or-iff a b) (⊎-iff f g)
-  where
-    ⊎-iff : {A B C D : Type 0} → A ↔ C → B ↔ D → (A ⊎ B) ↔ (C ⊎ D)
-    ⊎-iff f′ g′ =
-        (⊎-elim (λ x. inl (f′ .0 x)) (λ y. inr (g′ .0 y)), ⊎-elim (λ x. inl (f′ .1 x)) (λ y. inr (g′ .1 y)))
+either-iff a b f g = Iff·trans (or-iff a b) (⊎-map (f .0) (g .0), ⊎-map (f .1) (g .1))
 
 pub one-of-three-iff : (a b c : Bool) {A B C : Type 0}
     → T a ↔ A → T b ↔ B → T c ↔ C → T (a || b || c) ↔ (A ⊎ B ⊎ C)
@@ -102,7 +98,7 @@ within-true low high n e = within-iff low high n .0 (rw e tt)
 pub above-iff : (m n : ℕ) → T (not (leb m n)) ↔ (n < m)
 above-iff m n = (nleb→lt m n, λ h. not-T (leb m n) (λ t. not-le-of-lt h (leb→le m n t)))
 
--- not below is at most
+-- not above is at most
 pub not-above : {m n : ℕ} → (m < n → ⊥) → n ≤ m
 not-above h = le-of-suc-le-suc (lt-of-not-le h)
 
@@ -121,13 +117,13 @@ abbrev pub FromEach : ℕ → List ℕ → Type 0 → Type 0
 FromEach n [] P = P
 FromEach n (x ∷ xs) P = (n ≡ x → P) → FromEach n xs P
 
-settled : (P : Type 0) (n : ℕ) (xs : List ℕ) → P → FromEach n xs P
-settled P n [] p = p
-settled P n (x ∷ xs) p = λ f. settled P n xs p
+regardless : (P : Type 0) (n : ℕ) (xs : List ℕ) → P → FromEach n xs P
+regardless P n [] p = p
+regardless P n (x ∷ xs) p = λ f. regardless P n xs p
 
 pub by-each : (P : Type 0) (n : ℕ) (xs : List ℕ) → List·Memᴰ n xs → FromEach n xs P
 by-each P n [] m = absurd (List·Memᴰ·not-nil m)
-by-each P n (x ∷ xs) m = λ f. ⊎-elim (λ e. settled P n xs (f e)) (λ m′. by-each P n xs m′) (member-iff n x xs .0 m)
+by-each P n (x ∷ xs) m = λ f. ⊎-elim (λ e. regardless P n xs (f e)) (λ m′. by-each P n xs m′) (member-iff n x xs .0 m)
 
 -- ---- all of 0 to n - 1
 

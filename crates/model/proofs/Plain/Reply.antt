@@ -22,7 +22,7 @@ use Rattle.model.specs.Zone.{row}
 use Rattle.model.proofs.Laws.Join.{join-has, has-join, join-rising}
 use Rattle.model.proofs.Laws.Picked.{onlyIf-iff}
 use Rattle.model.proofs.Laws.Rising.{Rising, rising-one, rising-append}
-use Rattle.model.proofs.Laws.Tests.{ltb-iff, cond-both}
+use Rattle.model.proofs.Laws.Tests.{ltb-iff, cond-by, cond-both}
 
 -- "descriptors of 12 bytes" (14h) and "of 8 bytes" (06h)
 pub event-descriptor-length : (m : Monitor) → length (eventDescriptor m) ≡ 12
@@ -50,15 +50,13 @@ Sees s g p = (p ≡ 0xFF) ⊎ (T (exists s p) × T (reaches s g p))
 
 listed-has : (p r n p′ r′ n′ : ℕ) → List·Memᴰ (entry p r n) (listed p′ r′ n′)
     → (n ≡ 0 → ⊥) × (p ≡ p′) × (r ≡ r′) × (n ≡ n′)
-listed-has p r n p′ r′ n′ m = go (eqb n′ 0) refl m
-  where
-    go : (b : Bool) → eqb n′ 0 ≡ b → List·Memᴰ (entry p r n) (cond b [] (entry p′ r′ n′ ∷ []))
-        → (n ≡ 0 → ⊥) × (p ≡ p′) × (r ≡ r′) × (n ≡ n′)
-    go true e m′ = absurd (List·Memᴰ·not-nil m′)
-    go false e m′ =
-        let same : entry p r n ≡ entry p′ r′ n′ = List·Memᴰ·eq-of-singleton m′ in
-        let en : n ≡ n′ = ap (λ b. b .count) same in
-        (λ z. eqb-false n′ 0 e (omega arith), ap (λ b. b .phy) same, ap (λ b. b .reason) same, en)
+listed-has p r n p′ r′ n′ =
+    cond-by (λ bs. List·Memᴰ (entry p r n) bs → (n ≡ 0 → ⊥) × (p ≡ p′) × (r ≡ r′) × (n ≡ n′)) (eqb n′ 0) [] (entry p′ r′ n′ ∷ [])
+    (λ e m. absurd (List·Memᴰ·not-nil m))
+    (λ e m.
+    let same : entry p r n ≡ entry p′ r′ n′ = List·Memᴰ·eq-of-singleton m in
+    let en : n ≡ n′ = ap (λ b. b .count) same in
+    (λ z. eqb-false n′ 0 e (omega arith), ap (λ b. b .phy) same, ap (λ b. b .reason) same, en))
 
 has-listed : (p r n n′ : ℕ) → (n ≡ 0 → ⊥) → n ≡ n′ → List·Memᴰ (entry p r n) (listed p r n′)
 has-listed p r n n′ some en = rw (← en, ne-eqb n 0 some) (List·Memᴰ·head refl)
@@ -68,12 +66,10 @@ has-listed p r n n′ some en = rw (← en, ne-eqb n 0 some) (List·Memᴰ·head
 -- a list that is chosen by the type
 chosen : {A : Type 0} (kind k : ℕ) (xs ys : List A) {a : A} → List·Memᴰ a (cond (eqb kind k) xs ys)
     → ((kind ≡ k) × List·Memᴰ a xs) ⊎ List·Memᴰ a ys
-chosen kind k xs ys {a} m = go (eqb kind k) refl m
-  where
-    go : (b : Bool) → eqb kind k ≡ b → List·Memᴰ a (cond b xs ys)
-        → ((kind ≡ k) × List·Memᴰ a xs) ⊎ List·Memᴰ a ys
-    go true e m′ = inl (eqb-true kind k e, m′)
-    go false e m′ = inr m′
+chosen kind k xs ys {a} =
+    cond-by (λ l. List·Memᴰ a l → ((kind ≡ k) × List·Memᴰ a xs) ⊎ List·Memᴰ a ys) (eqb kind k) xs ys
+    (λ e m. inl (eqb-true kind k e, m))
+    (λ e m. inr m)
 
 abbrev Due : Shelf → ℕ → ℕ → ℕ → ℕ → Type 0
 Due s kind p r n = Kept s kind p r n × (n ≡ 0 → ⊥)

@@ -3,9 +3,9 @@
 use Prim.Native.Nat.{ℕ, zero, suc, _+_, _*_, _≤_, _<_, zero-le}
 use native.Mathlib.Nat.{eq-or-lt-of-le, not-le-of-lt}
 use native.Mathlib.Omega.{arith}
-use mathlib.Core.Path.{_≡_, refl, subst}
+use mathlib.Core.Path.{_≡_, subst}
 use mathlib.Core.Logic.{_↔_, _⊎_, ⊎-elim, Iff·rfl}
-use mathlib.Core.Bool.{Bool, true, false, not, cond, _&&_, _||_, or-assoc, or-false}
+use mathlib.Core.Bool.{Bool, not, _&&_, _||_, or-assoc, or-false}
 use mathlib.Core.List.{List, [], _∷_, List·Memᴰ}
 use lib.Dec.{T, ltb, eqb}
 use lib.ListN.{length}
@@ -18,7 +18,7 @@ use Rattle.model.specs.Request.{badFrame, functionOf, known, shaped, len
 use Rattle.model.specs.Request.{firstUnsupported}
 use Rattle.model.specs.Sources.{supported}
 use Rattle.model.specs.Tests.{oneOf}
-use Rattle.model.proofs.Laws.Tests.{denied-iff, both-iff, all-three-iff, either-iff, ltb-iff, eqb-iff, oneOf-iff, by-each}
+use Rattle.model.proofs.Laws.Tests.{denied-iff, both-iff, all-three-iff, either-iff, ltb-iff, eqb-iff, oneOf-iff, by-each, cond-by}
 
 -- H6: under four bytes, or the first is not 40h
 pub bad-frame : (frame : List ℕ) → T (badFrame frame) ↔ ((length frame < 4) ⊎ (byte frame 0 ≡ 0x40 → ⊥))
@@ -161,37 +161,28 @@ pub record First (frame : List ℕ) (n i r : ℕ) : Type 0 where
   pub before : (k : ℕ) → i ≤ k → k < r → T (allowed (descriptorSource frame k))
   pub at : r < i + n → T (allowed (descriptorSource frame r)) → ⊥
 
+-- it is the one at i
+first-here : (frame : List ℕ) (n i : ℕ) → (i < i + n → T (allowed (descriptorSource frame i)) → ⊥) → First frame n i i
+first-here frame n i at =
+    record { from = omega arith; to = omega arith; before = λ k low high. absurd (not-le-of-lt high low); at = at }
+
 pub first-unsupported : (frame : List ℕ) (n i : ℕ) → First frame n i (firstUnsupported frame n i)
 unfolding firstUnsupported
-first-unsupported frame zero i =
+first-unsupported frame zero i = first-here frame zero i (λ h. absurd (omega arith))
+first-unsupported frame (suc n) i =
+    let rest : First frame n (suc i) (firstUnsupported frame n (suc i)) = first-unsupported frame n (suc i) in
+    cond-by (First frame (suc n) i) (allowed (descriptorSource frame i)) _ _
+    (λ e.
     record {
       from = omega arith;
       to = omega arith;
-      before = λ k low high. absurd (not-le-of-lt high low);
-      at = λ h. absurd (not-le-of-lt h (omega arith));
-    }
-first-unsupported frame (suc n) i = go (allowed (descriptorSource frame i)) refl (first-unsupported frame n (suc i))
-  where
-    go : (b : Bool) → allowed (descriptorSource frame i) ≡ b
-        → First frame n (suc i) (firstUnsupported frame n (suc i))
-        → First frame (suc n) i (cond b (firstUnsupported frame n (suc i)) i)
-    go true e rest =
-        record {
-          from = omega arith;
-          to = omega arith;
-          before = λ k low high.
-              ⊎-elim (λ i≡k. subst (λ (j : ℕ). T (allowed (descriptorSource frame j))) i≡k (rw e tt))
-              (λ i<k. rest .before k i<k high)
-              (eq-or-lt-of-le low);
-          at = λ h. rest .at (omega arith);
-        }
-    go false e rest =
-        record {
-          from = omega arith;
-          to = omega arith;
-          before = λ k low high. absurd (not-le-of-lt high low);
-          at = λ h t. rw e at t;
-        }
+      before = λ k low high.
+          ⊎-elim (λ i≡k. subst (λ (j : ℕ). T (allowed (descriptorSource frame j))) i≡k (rw e tt))
+          (λ i<k. rest .before k i<k high)
+          (eq-or-lt-of-le low);
+      at = λ h. rest .at (omega arith);
+    })
+    (λ e. first-here frame (suc n) i (λ h t. rw e at t))
 
 -- so there is none exactly if every descriptor is allowed
 pub none-unsupported : (frame : List ℕ) (d : ℕ)

@@ -1,12 +1,13 @@
 -- What a change of phy p leaves alone: every other phy, the phy number, the table, the identifier and the counts under FFh. A change of
--- these counts leaves the phy number, the table and the identifier. Assumes nothing.
+-- any count leaves the phy number, the table and the identifier. Assumes nothing.
 use Prim.Native.Nat.{ℕ, _<_}
 use mathlib.Core.Path.{_≡_, refl}
+use mathlib.Core.List.{List}
 use lib.ListN.{length, length-set}
 use lib.Seq.{getD-set-same, getD-set-other}
 use Rattle.model.specs.declared.Phy.{Phy}
 use Rattle.model.specs.declared.Shelf.{Shelf}
-use Rattle.model.specs.Shelf.{noPhy, phyAt, put, putDevice}
+use Rattle.model.specs.Shelf.{noPhy, phyAt, shelfWith, put}
 
 -- what no operation changes
 pub record SameFixed (s t : Shelf) : Type 0 where
@@ -22,16 +23,15 @@ pub record OnlyPhy (s : Shelf) (p : ℕ) (t : Shelf) : Type 0 where
   pub expander3 : t .expander3 ≡ s .expander3
   pub ses0 : t .ses0 ≡ s .ses0
 
-pub same-fixed : (s : Shelf) → SameFixed s s
-same-fixed s = record { number = refl; table = refl; identifier = refl }
+-- of a shelf with other phys and counts, and so of the shelf itself, of `put` and of `putDevice`
+pub with-fixed : (s : Shelf) {phys : List Phy} {changes expander3 ses0 : ℕ}
+    → SameFixed s (shelfWith s phys changes expander3 ses0)
+with-fixed s = record { number = refl; table = refl; identifier = refl }
 
 pub same-only : (s : Shelf) (p : ℕ) → OnlyPhy s p s
-same-only s p = record { fixed = same-fixed s; size = refl; others = λ q apart. refl; expander3 = refl; ses0 = refl }
+same-only s p = record { fixed = with-fixed s; size = refl; others = λ q apart. refl; expander3 = refl; ses0 = refl }
 
 module _ (s : Shelf) (p : ℕ) (x : Phy) (count : ℕ) where
-  pub put-fixed : SameFixed s (put s p x count)
-  put-fixed = record { number = refl; table = refl; identifier = refl }
-
   pub put-same : p < length (s .phys) → phyAt (put s p x count) p ≡ x
   put-same h = getD-set-same (s .phys) p x noPhy h
 
@@ -40,8 +40,4 @@ module _ (s : Shelf) (p : ℕ) (x : Phy) (count : ℕ) where
 
   pub put-only : OnlyPhy s p (put s p x count)
   put-only =
-      record { fixed = put-fixed; size = length-set (s .phys) p x; others = put-other; expander3 = refl; ses0 = refl }
-
-module _ (s : Shelf) (expander3 ses0 : ℕ) where
-  pub device-fixed : SameFixed s (putDevice s expander3 ses0)
-  device-fixed = record { number = refl; table = refl; identifier = refl }
+      record { fixed = with-fixed s; size = length-set (s .phys) p x; others = put-other; expander3 = refl; ses0 = refl }

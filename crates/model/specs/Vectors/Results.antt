@@ -32,6 +32,7 @@ results =
     ∷ fresh 0x20 (Send 8 (controlFrame 0x09 0x01 2 0x01)) (Bytes (hex "41 91 20 00"))
     ∷ fresh 0x20 (Send 8 (controlFrame 0x09 0x01 2 0x03)) (Bytes (hex "41 91 20 00"))
     ∷ fresh 0x20 (Send 8 (controlFrame 0x09 0x01 2 0x05)) (Bytes (hex "41 91 20 00"))
+    -- 16h of an 11h
     ∷ fresh 0x16 (Send 9 (readPhyFrame 0x11 0x00 0)) (Bytes (hex "41 11 16 00"))
     -- 13h; 02h of a type above 0Fh, and of five descriptors before the first of them is judged; 17h
     ∷ fresh 0x13 (Send 8 (controlFrame 0x00 0x01 0 0x02)) (Bytes (hex "41 91 13 00"))

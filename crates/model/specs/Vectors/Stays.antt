@@ -1,4 +1,5 @@
--- On a shelf where no number of phy 0 is 0: what an operation doesn't name stays as it was. No entry has a number: 0.
+-- What an operation doesn't name stays as it was: on busyW, where no number of phy 0 is 0, and on countsW, where every phy has counts.
+-- No entry has a number: 0.
 use Prim.Native.Nat.{ℕ}
 use mathlib.Core.Bool.{cond}
 use mathlib.Core.List.{List, [], _∷_, _++_}
