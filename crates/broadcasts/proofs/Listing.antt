@@ -2,36 +2,31 @@
 use Prim.Native.Nat.{ℕ, suc, _+_, _*_, _≤_}
 use native.Mathlib.Nat.{add-zero, add-suc, suc-add}
 use native.Mathlib.Omega.{arith}
-use mathlib.Core.Path.{_≡_, refl, sym, ap, _∙_}
+use mathlib.Core.Path.{_≡_, refl, ap, _∙_}
 use mathlib.Core.List.{List, [], _∷_, _++_, append-assoc}
 use lib.ListN.{length, take, drop, length-append}
 use lib.Seq.{sets, sets-eq, length-sets, length-take-le, take-length, drop-at}
-use Rattle.model.specs.Reply.{Broadcast, broadcastDescriptor, broadcastBytes}
+use Rattle.model.specs.Reply.{Broadcast, broadcastBytes}
 use Rattle.model.specs.Server.{over}
 use Rattle.model.proofs.Plain.Reply.{broadcast-bytes-length}
 use Rattle.broadcasts.specs.Listed.{listedFrom, Lists}
 
 -- bytes after bytes are both from the first place on
 sets-append : (out xs ys : List ℕ) (at : ℕ) → sets (sets out at xs) (at + length xs) ys ≡ sets out at (xs ++ ys)
-sets-append out [] ys at = ap (λ k. sets out k ys) (add-zero at)
-sets-append out (x ∷ xs) ys at =
-    ap (λ k. sets (sets out at (x ∷ xs)) k ys) (add-suc at (length xs) ∙ sym (suc-add at (length xs)))
-    ∙ sets-append _ xs ys (suc at)
+sets-append out [] ys at = rw add-zero
+sets-append out (x ∷ xs) ys at = rw (add-suc, ← suc-add) (sets-append _ xs ys (suc at))
 
 descriptors-append : (xs ys : List Broadcast) → broadcastBytes (xs ++ ys) ≡ broadcastBytes xs ++ broadcastBytes ys
 unfolding broadcastBytes
 descriptors-append [] ys = refl
-descriptors-append (x ∷ xs) ys =
-    ap (λ zs. broadcastDescriptor x ++ zs) (descriptors-append xs ys)
-    ∙ sym (append-assoc (broadcastDescriptor x) (broadcastBytes xs) (broadcastBytes ys))
+descriptors-append (x ∷ xs) ys = rw (descriptors-append xs ys)
 
 -- the descriptors of xs from n on, and then those of ys from there on
 listed-append : (out : List ℕ) (n : ℕ) (xs ys : List Broadcast)
     → listedFrom (listedFrom out n xs) (n + length xs) ys ≡ listedFrom out n (xs ++ ys)
 listed-append out n xs ys =
-    ap (λ k. sets (listedFrom out n xs) k (broadcastBytes ys)) (omega (arith, broadcast-bytes-length xs))
-    ∙ sets-append out (broadcastBytes xs) (broadcastBytes ys) (8 + 8 * n)
-    ∙ ap (sets out (8 + 8 * n)) (sym (descriptors-append xs ys))
+    let next : 8 + 8 * (n + length xs) ≡ 8 + 8 * n + length (broadcastBytes xs) = omega (arith, broadcast-bytes-length xs) in
+    rw (next, sets-append, descriptors-append)
 
 pub lists-append : (out : List ℕ) (n : ℕ) {out′ out″ : List ℕ} {n′ n″ : ℕ} (xs ys : List Broadcast)
     → Lists out n xs n′ out′ → Lists out′ n′ ys n″ out″ → Lists out n (xs ++ ys) n″ out″
@@ -47,11 +42,6 @@ pub lists-length : (out : List ℕ) (n : ℕ) {after : List ℕ} {number : ℕ} 
     → length after ≡ length out
 lists-length out n bs (e, b) = ap length b ∙ length-sets out (8 + 8 * n) (broadcastBytes bs)
 
--- one descriptor listed is its bytes
-pub listed-one : (out : List ℕ) (n : ℕ) (b : Broadcast) → listedFrom out n (b ∷ []) ≡ sets out (8 + 8 * n) (broadcastDescriptor b)
-unfolding broadcastBytes
-listed-one out n b = refl
-
 -- the head laid over the front of the list makes the response, and the old rest stands behind it
 pub headed : (out head : List ℕ) (bs : List Broadcast) → length head ≡ 8 → 8 + 8 * length bs ≤ length out
     → take (length head) head ++ drop (length head) (listedFrom out 0 bs) ≡ over out (head ++ broadcastBytes bs)
@@ -62,4 +52,4 @@ headed out head bs eight room =
     let behind : drop 8 (listedFrom out 0 bs) ≡ bytes ++ rest =
     rw (sets-eq bytes out 8 fits, append-assoc (take 8 out) bytes rest)
     (drop-at (take 8 out) (bytes ++ rest) 8 (length-take-le 8 out (omega arith))) in
-    rw (take-length head, length-append head bytes, eight, behind) (sym (append-assoc head bytes rest))
+    rw (take-length, length-append, eight, behind, append-assoc)

@@ -29,13 +29,13 @@ fn control(shelf: Shelf, phy: u8, operation: u8) -> Shelf
     put(shelf, phy as u32, after, changes)
 }
 
-// An accepted 93h: another record for its phy.
-fn configure(shelf: Shelf, frame: &[u8], clear: bool, phy: u8, number: u8) -> Shelf
-    ensures { λ r. ⌜ r ≡ configure shelf (now (frame .entry)) clear phy number ⌝ }
+// An accepted 93h with d descriptors: another record for its phy.
+fn configure(shelf: Shelf, frame: &[u8], clear: bool, phy: u8, d: u8) -> Shelf
+    ensures { λ r. ⌜ r ≡ configure shelf (now (frame .entry)) clear phy d ⌝ }
 {
     let phys = shelf.phys;
     let before = phy_at(phys, phy as u32);
-    let after = configured(frame, number, clear, before);
+    let after = configured(frame, d, clear, before);
     put(shelf, phy as u32, after, shelf.changes)
 }
 

@@ -1,4 +1,4 @@
--- Bytes that are copied over a frame, from a place on to its end, are what `sets` says. Assumes nothing.
+-- A copy of bytes into the part of a frame from a place on is what `sets` says. Assumes nothing.
 use Prim.Native.Nat.{ℕ, _+_, _-_, _≤_}
 use native.Mathlib.Omega.{arith}
 use mathlib.Core.Path.{_≡_, _∙_}
@@ -21,15 +21,7 @@ module _ (frame bytes : List ℕ) (at : ℕ) (fits : at + length bytes ≤ lengt
 
   pub laid-over : putMid at (length frame - at) frame copied ≡ sets frame at bytes
   laid-over =
-      rw (
-        part-all,
-        rest-none,
-        take-length bytes,
-        drop-drop (length bytes) at frame,
-        append-nil (bytes ++ drop (at + length bytes) frame),
-        sets-eq bytes frame at fits,
-        append-assoc (take at frame) bytes (drop (at + length bytes) frame),
-      )
+      rw (part-all, rest-none, take-length, drop-drop, append-nil, sets-eq bytes frame at fits, append-assoc)
 
 -- one more group of bytes over a frame, where the bytes and the frame are known as something else
 pub then : {before after known bytes these : List ℕ} (at : ℕ)

@@ -1,4 +1,4 @@
-// "Function results .. In this order, first failure decides." What a request that was read comes to, from
+// "Function results .. In this order, first failure decides": what a request that was read comes to, from
 // pieces of the shelf: the present change count, whether the request's phy exists, and whether the
 // source reaches it.
 use model::FunctionResult;

@@ -1,5 +1,5 @@
--- One turn of each loop: of the bytes of a line or a form that are left, and of the times that a report is still to be made. Assumes
--- nothing.
+-- One turn of each loop, and how the reading of digits and of a form ends: of the bytes of a line or a form that are left, and of the
+-- times that a report is still to be made. Assumes nothing.
 use Prim.Native.Nat.{ℕ, suc, _+_, _-_, _<_, _≤_}
 use native.Mathlib.Numerals.{add-one}
 use native.Mathlib.Omega.{arith}

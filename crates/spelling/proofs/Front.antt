@@ -1,11 +1,11 @@
 -- The bytes that a text begins with. Assumes nothing.
-use Prim.Native.Nat.{ℕ, zero, suc, _+_, _*_, _/_, _%_, _<_, _≤_, min}
+use Prim.Native.Nat.{ℕ, _+_, _*_, _/_, _%_, _<_, _≤_, min}
 use native.Mathlib.Numerals.{add-one}
-use native.Mathlib.Omega.{arith}
+use native.Mathlib.Omega.{arith, min-cases}
 use mathlib.Core.Path.{_≡_, refl, ap, sym, _∙_}
 use mathlib.Core.List.{List, [], _∷_, _++_, append-assoc}
 use lib.ListN.{length, take, drop, set, getD, length-set, take-append-drop}
-use lib.Seq.{take-nil, take-suc, take-suc-set, length-take-le, drop-drop, drop-set-lt}
+use lib.Seq.{take-all, take-length, take-suc, take-suc-set, length-take-le, drop-drop, drop-set-lt}
 use Rattle.model.specs.Server.{over}
 use Rattle.spelling.specs.Part.{Counts}
 use Rattle.spelling.specs.Spelling.{hexDigit, bytesText, responseText}
@@ -15,13 +15,8 @@ counts n xs h = (h, sym (length-take-le n xs h))
 
 -- there are no more to take than there are
 take-min : (k : ℕ) (l : List ℕ) → take (min k (length l)) l ≡ take k l
-take-min zero l =
-    let e : min 0 (length l) ≡ 0 = omega arith in
-    rw e
-take-min (suc k) [] = rw (take-nil (min (suc k) 0))
-take-min (suc k) (x ∷ l) =
-    let e : min (suc k) (suc (length l)) ≡ suc (min k (length l)) = omega arith in
-    rw (e, take-min k l)
+take-min k l =
+    min-cases k (length l) _ (λ fewer e. rw e) (λ more e. rw (e, take-length l, take-all k l more))
 
 -- one store after those that were taken
 take-store : (l : List ℕ) (n a : ℕ) → n < length l → take (n + 1) (set l n a) ≡ take n l ++ (a ∷ [])
@@ -33,11 +28,14 @@ three-stores : (l : List ℕ) (n a b c : ℕ) → n + 3 ≤ length l
 three-stores l n a b c h =
     let e3 : n + 3 ≡ (n + 2) + 1 = omega arith in
     let e2 : n + 2 ≡ (n + 1) + 1 = omega arith in
-    rw e3
-    (rw (take-store (set (set l n a) (n + 1) b) (n + 2) c (simp length-set (omega arith)))
-    (rw (ap (λ (k : ℕ). take k (set (set l n a) (n + 1) b)) e2)
-    (rw (take-store (set l n a) (n + 1) b (simp length-set (omega arith)), take-store l n a (omega arith))
-    (simp append-assoc))))
+    rw (
+      e3,
+      take-store (set (set l n a) (n + 1) b) (n + 2) c (simp length-set (omega arith)),
+      e2,
+      take-store (set l n a) (n + 1) b (simp length-set (omega arith)),
+      take-store l n a (omega arith),
+    )
+    (simp append-assoc)
 
 text-append : (xs ys : List ℕ) → bytesText (xs ++ ys) ≡ bytesText xs ++ bytesText ys
 unfolding bytesText
@@ -63,7 +61,7 @@ pub spell-end : (text response : List ℕ) (i n : ℕ) → i ≡ n → n ≡ min
 unfolding responseText
 spell-end text response i n all most h so-far =
     let spelled : take (3 * n) text ≡ bytesText (take n response) = rw all at so-far in
-    let taken : take n response ≡ take 1364 response = ap (λ (k : ℕ). take k response) most ∙ take-min 1364 response in
+    let taken : take n response ≡ take 1364 response = rw most (take-min 1364 response) in
     rw (take-store text (3 * n) 0x0A h, spelled, taken)
 
 -- what stands behind the text: from a place on as it was, it is so from a later place on

@@ -1,7 +1,7 @@
 // How the answers to a script are spelled: each after a space.
 //
 // Nothing here writes by itself, and no public function asks anything of its caller. Each is proved
-// to give what a definition of specs/ says.
+// to give what a definition of specs/ says, and `at_most` the smaller of two numbers.
 pub mod part;
 
 use gate::numbers::house_number;

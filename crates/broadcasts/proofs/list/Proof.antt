@@ -1,15 +1,12 @@
 -- `broadcasts::list` meets its contract: a count of 0 adds nothing, and any other one descriptor. Assumes nothing.
 use borrow.Author.Needs.{needs}
-use Prim.Native.Nat.{_+_, _-_, _*_}
+use Prim.Native.Nat.{_+_, _*_}
 use native.Mathlib.Omega.{arith}
-use mathlib.Core.Path.{refl, sym, ap, _∙_}
+use mathlib.Core.Path.{refl}
 use borrow.Author.Tests.{eq-eqb, ne-eqb}
-use borrow.Rule.Slice.PartMut.{putMid}
-use lib.ListN.{length}
-use lib.Seq.{sets}
-use Rattle.model.specs.Reply.{entry}
+use Rattle.model.specs.Reply.{broadcastBytes}
 use Rattle.replies.proofs.Laid.{laid-over}
-use Rattle.broadcasts.proofs.Listing.{lists-none, listed-one}
+use Rattle.broadcasts.proofs.Listing.{lists-none}
 use Rattle.broadcasts.proofs.list.Statement.{statement}
 use Rattle.broadcasts.proofs.list.Tie as tie
 
@@ -49,6 +46,7 @@ same-length : tie.Need-same-length
 same-length c = search needs
 
 returns-2 : tie.Need-returns-2
+unfolding broadcastBytes
 returns-2 c =
     let copied = c .before .before in
     let made = copied .before .before .before in
@@ -57,10 +55,11 @@ returns-2 c =
     let at = 8 + 8 * a .n in
     rw (ne-eqb (a .count) 0 (omega arith)) (
       refl,
-      ap (putMid at (length out - at) out) (copied .copy .ensures .1)
-          ∙ laid-over out (made .broadcast-descriptor .result) at (omega arith)
-          ∙ ap (sets out at) (made .broadcast-descriptor .ensures)
-          ∙ sym (listed-one out (a .n) (entry (a .phy) (a .reason) (a .count))),
+      rw (
+        copied .copy .ensures .1,
+        laid-over out (made .broadcast-descriptor .result) at (omega arith),
+        made .broadcast-descriptor .ensures,
+      ),
     )
 
 pub list-spec : {M : Type 1} → statement M

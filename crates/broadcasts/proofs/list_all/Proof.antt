@@ -1,20 +1,18 @@
 -- `broadcasts::list_all` meets its contract. The loop's invariant: what the source sees of the phys passed is listed
 -- behind the count under FFh. The measure is how many of the 24 places are left. Assumes nothing.
 use borrow.Author.Needs.{needs}
-use Prim.Native.Nat.{ℕ, _+_, _-_, _≤_}
+use Prim.Native.Nat.{ℕ, _-_, _≤_}
 use native.Mathlib.Numerals.{add-one}
 use native.Mathlib.Omega.{arith}
 use mathlib.Core.Path.{_≡_, _∙_}
-use mathlib.Core.List.{List, _++_}
+use mathlib.Core.List.{List}
 use lib.ListN.{length, getD}
 use Rattle.model.specs.declared.Phy.{Phy}
 use Rattle.model.specs.Reply.{Broadcast, deviceListed, seenListed, broadcasts}
 use Rattle.model.specs.Shelf.{noPhy}
 use Rattle.model.specs.Tests.{joinBelow}
-use Rattle.model.specs.Zone.{rowReaches}
-use Rattle.model.proofs.Demands.Frames.{AtMost, device-few, phy-few}
+use Rattle.model.proofs.Demands.Frames.{device-few, seen-few}
 use Rattle.model.proofs.Laws.Join.{join-few}
-use Rattle.model.proofs.Laws.Tests.{cond-both}
 use Rattle.broadcasts.specs.Listed.{Lists}
 use Rattle.broadcasts.proofs.Listing.{lists-none, lists-append, lists-length}
 use Rattle.broadcasts.proofs.list_all.Statement.{statement}
@@ -23,15 +21,6 @@ use Rattle.broadcasts.proofs.list_all.Tie as tie
 -- what a source with this row sees of phy p
 abbrev seen : List Phy → ℕ → ℕ → ℕ → List Broadcast
 seen phys row kind p = seenListed row kind p (getD phys p noPhy)
-
-seen-few : (phys : List Phy) (row kind p : ℕ) → length (seen phys row kind p) ≤ 2
-seen-few phys row kind p =
-    let x = getD phys p noPhy in
-    cond-both (AtMost 2) (rowReaches row (x .group)) _ _ (phy-few kind p x) (omega arith)
-
-join-more : (n : ℕ) (of : ℕ → List Broadcast) → joinBelow (n + 1) of ≡ joinBelow n of ++ of n
-unfolding joinBelow
-join-more n of = rw add-one
 
 abbrev Inv-loop : tie.InvT-loop
 Inv-loop source kind out₀ phys row number n₀ p₀ out n p =
@@ -82,7 +71,7 @@ list-seen-requires c κs =
     let turn = c .before .before .before in
     let first = turn .before .before .before in
     let a = first .before .before .before .before .before .before .before .args in
-    let few = join-few (turn .loop .p) 2 (of first) (seen-few (a .shelf .phys) _ (a .kind)) in
+    let few = join-few (turn .loop .p) 2 (of first) (λ p. seen-few _ (a .kind) p _) in
     let sofar = joinBelow (turn .loop .p) (of first) in (
       omega (arith, begun first, lists-length _ _ sofar (turn .loop .inv .1)),
       omega (arith, begun first, few),
@@ -95,13 +84,14 @@ loop-less : tie.Need-loop-less Inv-loop μ-loop
 loop-less c = search needs
 
 loop-again : tie.Need-loop-again Inv-loop μ-loop
+unfolding joinBelow
 loop-again c =
     let listed = c .before .before in
     let turn = listed .before .before .before .before in
     let first = turn .before .before .before in
     let one = rw (listed .before .phy-at .ensures) at (listed .list-seen .ensures) in (
       omega arith,
-      rw (join-more (turn .loop .p) (of first))
+      rw (add-one (turn .loop .p))
           (lists-append _ (first .list-device .result) (joinBelow (turn .loop .p) (of first)) (of first (turn .loop .p))
           (turn .loop .inv .1) one),
     )

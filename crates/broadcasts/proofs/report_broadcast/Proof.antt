@@ -1,9 +1,9 @@
 -- `broadcasts::report_broadcast` meets its contract: the list, and then its head in front of it. Assumes nothing.
 use borrow.Author.Needs.{needs}
 use native.Mathlib.Omega.{arith}
-use mathlib.Core.Path.{_≡_, ap, _∙_}
+use mathlib.Core.Path.{_≡_, ap}
 use lib.ListN.{length, length-append}
-use Rattle.model.specs.Reply.{broadcasts, broadcastHead, reportBroadcast}
+use Rattle.model.specs.Reply.{broadcasts, reportBroadcast}
 use Rattle.model.proofs.Demands.Frames.{broadcasts-few}
 use Rattle.model.proofs.Plain.Reply.{broadcast-bytes-length}
 use Rattle.replies.proofs.Sending.{none-sent, has-room}
@@ -12,7 +12,7 @@ use Rattle.broadcasts.proofs.report_broadcast.Statement.{statement}
 use Rattle.broadcasts.proofs.report_broadcast.Tie as tie
 
 returns : tie.Need-returns
-returns c = none-sent (c .before .before .args .out .now) _ (omega arith)
+returns c = none-sent _ _ (c .if1 .taken)
 
 list-all-requires : tie.Need-list-all-requires
 list-all-requires c κs = search needs
@@ -50,7 +50,7 @@ returns-2 c =
     let a = walked .before .before .before .before .args in
     let bs = broadcasts (a .shelf) (a .source) (a .kind) in
     let number : walked .list-all .result ≡ length bs = omega (arith, walked .list-all .ensures .0) in
-    let head = made .broadcast-head .ensures ∙ ap (broadcastHead (a .shelf .changes) (a .kind)) number in
+    let head = rw number at (made .broadcast-head .ensures) in
     let few = broadcasts-few (a .shelf) (a .source) (a .kind) in
     rw (has-room (a .out .now) (reportBroadcast (a .shelf) (a .source) (a .kind)) (omega arith)) (
       simp length-append (omega (arith, number, broadcast-bytes-length bs)),

@@ -21,14 +21,14 @@ use Rattle.model.specs.declared.Request.the-variants.{ReportGeneral, Rep
 use Rattle.model.specs.declared.Request.the-variants.{ReportPhyErrorLog, ReportPhyEvent, PhyControl, ConfigurePhyEvent}
 use Rattle.model.specs.declared.Shelf.{Shelf}
 use Rattle.model.specs.Bytes.{byte, one}
-use Rattle.model.specs.Reach.{reaches}
 use Rattle.model.specs.Reply.{failed, response, changeCount, reportGeneral, reportManufacturer, reportPhyErrorLog}
-use Rattle.model.specs.Reply.{monitorAt, reportPhyEvent, Broadcast, listed, deviceListed, phyListed, broadcasts}
-use Rattle.model.specs.Reply.{broadcastBytes, reportBroadcast, respond}
+use Rattle.model.specs.Reply.{monitorAt, reportPhyEvent, Broadcast, listed, deviceListed, phyListed, seenListed}
+use Rattle.model.specs.Reply.{broadcasts, broadcastBytes, reportBroadcast, respond}
 use Rattle.model.specs.Request.{functionOf, known, asked}
 use Rattle.model.specs.Results.{resultCode}
 use Rattle.model.specs.Server.{Sends, handle}
 use Rattle.model.specs.Shelf.{phyNumber, noPhy, phyAt, freshMonitor}
+use Rattle.model.specs.Zone.{row, rowReaches}
 use Rattle.model.proofs.Demands.Fits.{BytesFit, Fits}
 use Rattle.model.proofs.Laws.Handled.{verdict, sent-all, accepted-decided}
 use Rattle.model.proofs.Laws.Join.{join-few}
@@ -78,12 +78,14 @@ phy-few kind p x =
     (simp length-append (omega (arith, listed-few p 0x1 (x .expander1), listed-few p 0x2 (x .expander2))))
     zero-le)
 
+pub seen-few : (r kind p : ℕ) (x : Phy) → AtMost 2 (seenListed r kind p x)
+seen-few r kind p x = cond-both (AtMost 2) (rowReaches r (x .group)) _ _ (phy-few kind p x) zero-le
+
 -- one count under FFh, and two of each of at most 24 phys
 pub broadcasts-few : (s : Shelf) (g kind : ℕ) → length (broadcasts s g kind) ≤ 49
 unfolding broadcasts
 broadcasts-few s g kind =
-    let few : (p : ℕ) → AtMost 2 (ofPhy s g kind p) =
-    λ p. cond-both (AtMost 2) (reaches s g p) _ _ (phy-few kind p (phyAt s p)) zero-le in
+    let few : (p : ℕ) → AtMost 2 (ofPhy s g kind p) = λ p. seen-few (row (s .table) g) kind p (phyAt s p) in
     simp length-append (omega (arith, device-few kind (s .expander3) (s .ses0), join-few (phyNumber s) 2 (ofPhy s g kind) few))
 
 -- ---- the head and the length

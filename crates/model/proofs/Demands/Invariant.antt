@@ -20,7 +20,7 @@ use Rattle.model.proofs.Demands.Fits.{BytesFit, Fits, FitsOn, fresh-fit
 use Rattle.model.proofs.Demands.Fits.{originated-fits, originated-present, event-keeps, change-keeps, control-keeps, configure-keeps}
 use Rattle.model.proofs.Laws.Join.{join-length}
 use Rattle.model.proofs.Laws.Places.{All}
-use Rattle.model.proofs.Laws.Steps.{Step, KeptBy, next-step, step-fixed, step-phys, Counts, step-counts, SameZones, next-zones}
+use Rattle.model.proofs.Laws.Steps.{Step, KeptBy, next-step, step-fixed, step-phys, DeviceCounts, step-counts, SameZones, next-zones}
 use Rattle.model.proofs.Laws.Tests.{cond-by}
 use Rattle.model.proofs.Plain.Reach.{reaches-nothing}
 use Rattle.model.proofs.Plain.Shelf.{SameFixed}
@@ -75,7 +75,7 @@ module _ (s t : Shelf) (step : Step KeepsFit s t) where
   step-fits : Fits s → Fits t
   step-fits f =
       let fixed : SameFixed s t = step-fixed KeepsFit s t step in
-      let counts : Counts s t = step-counts KeepsFit s t step in
+      let counts : DeviceCounts s t = step-counts KeepsFit s t step in
       record {
         number = rw (fixed .number) (f .number);
         phys-size = counts .size ∙ f .phys-size;

@@ -93,13 +93,13 @@ step-phys Keeps R same on s t (ChangesPhy p f moves there keeps e) q =
 step-phys Keeps R same on s t (CountsNotice a b e) q = rw e (same (phyAt s q))
 
 -- There are as many phys as before, and each device wide count is originated, or not.
-pub record Counts (s t : Shelf) : Type 0 where
+pub record DeviceCounts (s t : Shelf) : Type 0 where
   pub size : length (t .phys) ≡ length (s .phys)
   pub changes : (b : Bool) × (t .changes ≡ originateIf b (s .changes))
   pub expander3 : (b : Bool) × (t .expander3 ≡ originateIf b (s .expander3))
   pub ses0 : (b : Bool) × (t .ses0 ≡ originateIf b (s .ses0))
 
-pub step-counts : (Keeps : (Phy → Phy) → (Phy → Bool) → Type 0) (s t : Shelf) → Step Keeps s t → Counts s t
+pub step-counts : (Keeps : (Phy → Phy) → (Phy → Bool) → Type 0) (s t : Shelf) → Step Keeps s t → DeviceCounts s t
 step-counts Keeps s t (Stays e) =
     rw e (record { size = refl; changes = (false, refl); expander3 = (false, refl); ses0 = (false, refl) })
 step-counts Keeps s t (ChangesPhy p f moves there keeps e) =

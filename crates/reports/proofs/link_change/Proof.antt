@@ -2,10 +2,8 @@
 -- Assumes nothing.
 use borrow.Author.Needs.{needs}
 use borrow.Author.Tests.{not-true, not-false}
-use mathlib.Core.Path.{_≡_, sym, _∙_}
-use mathlib.Core.Bool.{true}
+use mathlib.Core.Path.{sym, _∙_}
 use Rattle.model.specs.Reports.{linkChange}
-use Rattle.model.specs.Shelf.{exists}
 use Rattle.reports.proofs.link_change.Statement.{statement}
 use Rattle.reports.proofs.link_change.Tie as tie
 
@@ -28,16 +26,14 @@ originate-requires c κs = search needs
 put-requires : tie.Need-put-requires
 put-requires c κs = search needs
 
-there : (c : tie.Else1) → exists (c .before .before .args .shelf) (c .before .before .args .phy) ≡ true
-there c = sym (c .before .exists .ensures) ∙ not-false _ (c .if1 .left)
-
 returns-2 : tie.Need-returns-2
 unfolding linkChange
 returns-2 c =
     let changed = c .before .before in
     let read = changed .before in
+    let there = read .before .before in
     rw (
-      there (read .before .before),
+      sym (there .before .exists .ensures) ∙ not-false _ (there .if1 .left),
       c .put .ensures,
       c .before .originate .ensures,
       changed .change-on .ensures,

@@ -2,14 +2,13 @@
 -- Assumes nothing.
 use borrow.Author.Needs.{needs}
 use native.Mathlib.Omega.{arith}
-use mathlib.Core.Path.{ap, _∙_}
-use Rattle.model.specs.Reply.{respond, reportGeneral, reportPhyErrorLog, reportPhyEvent}
+use Rattle.model.specs.Reply.{respond}
 use Rattle.replies.proofs.Sending.{none-sent, sent}
 use Rattle.responses.proofs.respond.Statement.{statement}
 use Rattle.responses.proofs.respond.Tie as tie
 
 returns : tie.Need-returns
-returns c = none-sent (c .before .before .args .out .now) _ (omega arith)
+returns c = none-sent _ _ (c .if1 .taken)
 
 enum-told : tie.Need-enum-told
 enum-told c = search needs
@@ -108,8 +107,7 @@ returns-2 c =
     let a = arm .before .before .before .before .args in
     rw (arm .enum-told .given .1)
     (sent (a .out .now) (omega arith) (copied .copy .ensures .0) (copied .copy .ensures .1)
-    (made .report-general .ensures
-    ∙ ap (λ n. reportGeneral (a .shelf .changes) n (a .shelf .identifier)) (counted .phy-number .ensures)))
+    (rw (counted .phy-number .ensures) at (made .report-general .ensures)))
 
 same-length-2 : tie.Need-same-length-2
 same-length-2 c = search needs
@@ -147,7 +145,7 @@ returns-5 c =
     let a = arm .before .before .before .before .args in
     rw (arm .request2 .given .1)
     (sent (a .out .now) (omega arith) (copied .copy3 .ensures .0) (copied .copy3 .ensures .1)
-    (made .report-phy-error-log .ensures ∙ ap (reportPhyErrorLog (a .shelf .changes) (arm .request2 .given .0 .0)) (read .phy-at .ensures)))
+    (rw (read .phy-at .ensures) at (made .report-phy-error-log .ensures)))
 
 same-length-5 : tie.Need-same-length-5
 same-length-5 c = search needs
@@ -162,7 +160,7 @@ returns-6 c =
     let a = arm .before .before .before .before .args in
     rw (arm .request3 .given .1)
     (sent (a .out .now) (omega arith) (copied .copy4 .ensures .0) (copied .copy4 .ensures .1)
-    (made .report-phy-event .ensures ∙ ap (reportPhyEvent (a .shelf .changes) (arm .request3 .given .0 .0)) (read .phy-at2 .ensures)))
+    (rw (read .phy-at2 .ensures) at (made .report-phy-event .ensures)))
 
 same-length-6 : tie.Need-same-length-6
 same-length-6 c = search needs

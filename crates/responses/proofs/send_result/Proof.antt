@@ -1,14 +1,12 @@
 -- `responses::send_result` meets its contract: the four bytes are copied to the front of the buffer. Assumes nothing.
 use borrow.Author.Needs.{needs}
 use native.Mathlib.Omega.{arith}
-use mathlib.Core.Path.{_∙_, ap}
-use Rattle.model.specs.Reply.{failed}
 use Rattle.replies.proofs.Sending.{none-sent, sent}
 use Rattle.responses.proofs.send_result.Statement.{statement}
 use Rattle.responses.proofs.send_result.Tie as tie
 
 returns : tie.Need-returns
-returns c = none-sent (c .before .before .args .out .now) _ (omega arith)
+returns c = none-sent _ _ (c .if1 .taken)
 
 result-code-requires : tie.Need-result-code-requires
 result-code-requires c κs = search needs
@@ -32,7 +30,7 @@ returns-2 c =
     let coded = made .before in
     let a = coded .before .before .before .args in
     sent (a .out .now) (omega arith) (copied .copy .ensures .0) (copied .copy .ensures .1)
-    (made .failed .ensures ∙ ap (failed (a .function)) (coded .result-code .ensures))
+    (rw (coded .result-code .ensures) at (made .failed .ensures))
 
 pub send-result-spec : {M : Type 1} → statement M
 send-result-spec =

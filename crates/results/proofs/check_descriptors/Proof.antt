@@ -1,7 +1,6 @@
 -- `results::check_descriptors` meets its contract: their number, then the first unsupported place. Assumes nothing.
 use borrow.Author.Needs.{needs}
 use native.Mathlib.Omega.{arith}
-use mathlib.Core.Path.{sym}
 use borrow.Author.Tests.{le-leb, lt-leb, eq-eqb, ne-eqb}
 use Rattle.results.proofs.check_descriptors.Statement.{statement}
 use Rattle.results.proofs.check_descriptors.Tie as tie
@@ -18,7 +17,7 @@ returns-2 c =
     let a = first .before .before .before .args in
     rw (
       le-leb (a .d) 4 (omega arith),
-      sym (first .first-unsupported .ensures),
+      ← first .first-unsupported .ensures,
       ne-eqb (first .first-unsupported .result) (a .d) (omega arith),
     )
 
@@ -28,7 +27,7 @@ returns-3 c =
     let a = first .before .before .before .args in
     rw (
       le-leb (a .d) 4 (omega arith),
-      sym (first .first-unsupported .ensures),
+      ← first .first-unsupported .ensures,
       eq-eqb (first .first-unsupported .result) (a .d) (omega arith),
     )
 

@@ -1,8 +1,6 @@
 -- `counters::phy::counted_monitors` meets its contract: the four monitors that it reads are all there are. Assumes nothing.
 use borrow.Author.Needs.{needs}
 use native.Mathlib.Omega.{arith}
-use mathlib.Core.Path.{_≡_}
-use lib.ListN.{length}
 use Rattle.model.specs.Shelf.{freshMonitor}
 use Rattle.counters.proofs.Four.{four-elements}
 use Rattle.counters.proofs.phy.counted_monitors.Statement.{statement}
@@ -35,9 +33,8 @@ counted-requires-4 c κs = search needs
 returns : tie.Need-returns
 returns c =
     let monitors = c .before .before .before .before .before .before .before .before .args .t3 in
-    let size : length monitors ≡ 4 = omega arith in
     rw (
-      four-elements freshMonitor monitors size,
+      four-elements freshMonitor monitors (omega arith),
       c .before .before .before .before .before .before .counted .ensures,
       c .before .before .before .before .counted2 .ensures,
       c .before .before .counted3 .ensures,

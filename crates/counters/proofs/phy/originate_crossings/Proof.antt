@@ -1,8 +1,6 @@
 -- `counters::phy::originate_crossings` meets its contract: the four monitors that it reads are all there are. Assumes nothing.
 use borrow.Author.Needs.{needs}
 use native.Mathlib.Omega.{arith}
-use mathlib.Core.Path.{_≡_}
-use lib.ListN.{length}
 use Rattle.model.specs.Counting.{originateCrossings}
 use Rattle.model.specs.Shelf.{freshMonitor}
 use Rattle.counters.proofs.Four.{four-elements}
@@ -37,9 +35,8 @@ returns : tie.Need-returns
 unfolding originateCrossings
 returns c =
     let monitors = c .before .before .before .before .before .before .before .before .args .t3 in
-    let size : length monitors ≡ 4 = omega arith in
     rw (
-      four-elements freshMonitor monitors size,
+      four-elements freshMonitor monitors (omega arith),
       c .originate-crossing4 .ensures,
       c .before .before .originate-crossing3 .ensures,
       c .before .before .before .before .originate-crossing2 .ensures,

@@ -1,7 +1,7 @@
 -- `gate::frame::judge` meets its contract: the tests in their order are those of the definition. Assumes nothing.
 use borrow.Author.Needs.{needs}
 use borrow.Author.Tests.{not-true, not-false}
-use mathlib.Core.Path.{_≡_, sym, ap, _∙_}
+use mathlib.Core.Path.{_≡_, sym, _∙_}
 use mathlib.Core.Bool.{false}
 use denote.Ref.{now}
 use Rattle.model.specs.Request.{badFrame, functionOf, known, judge}
@@ -28,7 +28,7 @@ good c = sym (c .before .bad-frame .ensures) ∙ c .if1 .left
 known-is : (c : tie.After-known)
     → c .known .result
     ≡ known (functionOf (now (c .before .before .before .before .before .args .frame)))
-known-is c = c .known .ensures ∙ ap known (c .before .byte-at .ensures)
+known-is c = rw (c .before .byte-at .ensures) at (c .known .ensures)
 
 returns-2 : tie.Need-returns-2
 unfolding judge

@@ -58,10 +58,10 @@ letter c =
     )
 
 returns-3 : tie.Need-returns-3
-returns-3 c = rw (letter (c .before)) (simp (c .match .keys1))
+returns-3 c = rw (letter (c .before), c .match .keys1)
 
 returns-4 : tie.Need-returns-4
-returns-4 c = rw (letter (c .before)) (simp (c .match .keys2))
+returns-4 c = rw (letter (c .before), c .match .keys2)
 
 returns-5 : tie.Need-returns-5
 returns-5 c = rw (letter (c .before), ne-eqb _ _ (c .match .rest .0 .1), ne-eqb _ _ (c .match .rest .1))

@@ -2,6 +2,7 @@
 -- what the definition says. The measure is how many are left. Assumes nothing.
 use borrow.Author.Needs.{needs}
 use Prim.Native.Nat.{_≤_, _-_}
+use native.Mathlib.Nat.{sub-zero}
 use native.Mathlib.Omega.{arith}
 use mathlib.Core.Path.{_≡_, _∙_}
 use Rattle.script.specs.Report.{makeMore}
@@ -17,9 +18,7 @@ abbrev μ-loop : tie.MeasureT-loop
 μ-loop report times outcome₀ counter₀ outcome counter = times - counter
 
 loop-holds : tie.Need-loop-holds Inv-loop μ-loop
-loop-holds c =
-    let e : c .args .times - 0 ≡ c .args .times = omega arith in
-    (omega arith, rw e)
+loop-holds c = (omega arith, rw sub-zero)
 
 make-report-requires : tie.Need-make-report-requires Inv-loop μ-loop
 make-report-requires c κs = search needs

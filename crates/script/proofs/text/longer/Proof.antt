@@ -1,6 +1,5 @@
 -- `script::text::longer` meets its contract. Assumes nothing.
 use borrow.Author.Needs.{needs}
-use native.Mathlib.Omega.{arith}
 use borrow.Author.Tests.{eq-eqb, ne-eqb}
 use Rattle.script.specs.Text.{longer}
 use Rattle.script.proofs.text.longer.Statement.{statement}
@@ -17,7 +16,7 @@ capped-requires c κs = search needs
 
 returns : tie.Need-returns
 unfolding longer
-returns c = simp (eq-eqb (c .before .before .args .base) 16 (omega arith)) (c .capped .ensures)
+returns c = simp (eq-eqb _ _ (c .before .if1 .taken)) (c .capped .ensures)
 
 mul-capped-2 : tie.Need-mul-capped-2
 mul-capped-2 c = search needs
@@ -30,7 +29,7 @@ capped-requires-2 c κs = search needs
 
 returns-2 : tie.Need-returns-2
 unfolding longer
-returns-2 c = simp (ne-eqb (c .before .before .args .base) 16 (c .before .if1 .left)) (c .capped2 .ensures)
+returns-2 c = simp (ne-eqb _ _ (c .before .if1 .left)) (c .capped2 .ensures)
 
 pub longer-spec : {M : Type 1} → statement M
 longer-spec =

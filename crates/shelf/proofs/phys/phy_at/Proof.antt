@@ -1,9 +1,8 @@
 -- `shelf::phys::phy_at` meets its contract: past the array stands no phy. Assumes nothing.
 use borrow.Author.Needs.{needs}
-use Prim.Native.Nat.{_≤_}
 use native.Mathlib.Omega.{arith}
 use mathlib.Core.Path.{_∙_, sym}
-use lib.ListN.{length, List·getD-eq-default}
+use lib.ListN.{List·getD-eq-default}
 use Rattle.model.specs.Shelf.{noPhy}
 use Rattle.model.proofs.Laws.Places.{any-default}
 use Rattle.shelf.proofs.phys.phy_at.Statement.{statement}
@@ -15,8 +14,7 @@ fresh-phy-requires c κs = search needs
 returns : tie.Need-returns
 returns c =
     let a = c .before .before .args in
-    let past : length (a .t1) ≤ a .p = omega arith in
-    c .fresh-phy .ensures ∙ sym (List·getD-eq-default (a .t1) noPhy past)
+    c .fresh-phy .ensures ∙ sym (List·getD-eq-default (a .t1) noPhy {n = a .p} (omega arith))
 
 mul-result : tie.Need-mul-result
 mul-result c = search needs

@@ -1,9 +1,7 @@
 -- `shelf::phys::set_phy` meets its contract: past the array nothing is set. Assumes nothing.
 use borrow.Author.Needs.{needs}
-use Prim.Native.Nat.{_≤_}
 use native.Mathlib.Omega.{arith}
 use mathlib.Core.Path.{sym}
-use lib.ListN.{length}
 use lib.Seq.{set-out}
 use Rattle.shelf.proofs.phys.set_phy.Statement.{statement}
 use Rattle.shelf.proofs.phys.set_phy.Tie as tie
@@ -20,8 +18,7 @@ returns c = search needs
 returns-2 : tie.Need-returns-2
 returns-2 c =
     let a = c .before .args in
-    let past : length (a .phys) ≤ a .p = omega arith in
-    sym (set-out (a .phys) (a .p) _ past)
+    sym (set-out (a .phys) (a .p) _ (omega arith))
 
 pub set-phy-spec : {M : Type 1} → statement M
 set-phy-spec = tie.close (tie.spec mul-after array-set-from-after returns returns-2)

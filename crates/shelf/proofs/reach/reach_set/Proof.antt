@@ -1,11 +1,11 @@
 -- `shelf::reach::reach_set` meets its contract. The loop's invariant: the set has the bits of the phys passed that the
 -- source reaches. The measure is how many of the 24 places are left. Assumes nothing.
 use borrow.Author.Needs.{needs}
-use Prim.Native.Nat.{ℕ, _+_, _-_, _^_, _≤_}
+use Prim.Native.Nat.{ℕ, _+_, _-_, _≤_}
 use native.Mathlib.Numerals.{add-one}
 use native.Mathlib.Omega.{arith}
 use mathlib.Core.Path.{_≡_, _∙_}
-use mathlib.Core.Bool.{Bool, cond}
+use mathlib.Core.Bool.{Bool}
 use mathlib.Core.List.{List}
 use lib.ListN.{getD}
 use Rattle.model.specs.declared.Phy.{Phy}
@@ -16,11 +16,6 @@ use Rattle.model.specs.Zone.{rowReaches}
 use Rattle.model.proofs.Laws.Bits.{powers, powers-fit}
 use Rattle.shelf.proofs.reach.reach_set.Statement.{statement}
 use Rattle.shelf.proofs.reach.reach_set.Tie as tie
-
--- a set as a number: the next bit is added
-powers-more : (n : ℕ) (test : ℕ → Bool) → powers (n + 1) test ≡ powers n test + cond (test n) (2 ^ n) 0
-unfolding sumBelow
-powers-more n test = rw add-one
 
 -- phy p is one that the row reaches
 abbrev reached : ℕ → List Phy → ℕ → Bool
@@ -58,7 +53,8 @@ reachedHere c =
 added : (c : tie.After-phy-bit Inv-loop μ-loop)
     → c .before .before .before .loop .set + c .phy-bit .result
     ≡ powers (c .before .before .before .loop .p + 1) (reachedHere c)
-added c = cc (powers-more (c .before .before .before .loop .p) (reachedHere c))
+unfolding sumBelow
+added c = rw add-one (cc)
 
 add-set : tie.Need-add-set Inv-loop μ-loop
 add-set c = rw (added c) (record { fits = powers-fit 32 _ (reachedHere c) (omega arith) })

@@ -3,7 +3,7 @@
 use borrow.Author.Needs.{needs}
 use Prim.Native.Nat.{_-_}
 use native.Mathlib.Omega.{arith}
-use mathlib.Core.Path.{refl, ap, _∙_}
+use mathlib.Core.Path.{refl}
 use lib.ListN.{replicate}
 use Rattle.model.specs.Shelf.{freshPhy, startGroup}
 use Rattle.shelf.proofs.Filled.{FilledSoFar, filled-begin, filled-turn, filled-end}
@@ -46,7 +46,7 @@ loop-less c = search needs
 loop-again : tie.Need-loop-again Inv-loop μ-loop
 loop-again c =
     filled-turn _ _ _ _ (omega arith) (c .before .before .before .loop .inv)
-    (c .fresh-phy2 .ensures ∙ ap freshPhy (c .before .start-group .ensures))
+    (rw (c .before .start-group .ensures) at (c .fresh-phy2 .ensures))
 
 returns : tie.Need-returns Inv-loop μ-loop
 returns c = filled-end _ _ _ _ (omega arith) (c .before .loop .inv)

@@ -1,15 +1,12 @@
 -- `shelf::table::row` meets its contract: the table has 32 rows, so past 31 there is none. Assumes nothing.
 use borrow.Author.Needs.{needs}
-use Prim.Native.Nat.{_≤_}
 use native.Mathlib.Omega.{arith}
-use lib.ListN.{length, List·getD-eq-default}
+use lib.ListN.{List·getD-eq-default}
 use Rattle.shelf.proofs.table.row.Statement.{statement}
 use Rattle.shelf.proofs.table.row.Tie as tie
 
 returns : tie.Need-returns
-returns c =
-    let past : length (c .before .args .t1) ≤ c .before .args .g = omega arith in
-    rw (List·getD-eq-default (c .before .args .t1) 0 past)
+returns c = rw (List·getD-eq-default (c .before .args .t1) 0 {n = c .before .args .g} (omega arith))
 
 mul-result : tie.Need-mul-result
 mul-result c = search needs

@@ -1,9 +1,7 @@
 -- `writes::configure::any_peak` meets its contract: the four monitors that it reads are all there are. Assumes nothing.
 use borrow.Author.Needs.{needs}
 use native.Mathlib.Omega.{arith}
-use mathlib.Core.Path.{_≡_, _∙_}
-use mathlib.Core.Bool.{Bool, false, _||_, or-assoc, or-false}
-use lib.ListN.{length}
+use mathlib.Core.Bool.{or-assoc, or-false}
 use Rattle.model.specs.Shelf.{freshMonitor}
 use Rattle.model.specs.Writes.{anyPeak}
 use Rattle.counters.proofs.Four.{four-elements}
@@ -34,26 +32,19 @@ array-copy-out-on-peak-4 c = search needs
 on-peak-requires-4 : tie.Need-on-peak-requires-4
 on-peak-requires-4 c κs = search needs
 
--- the definition joins its tests from the right, and ends on false
-in-order : (p q r s : Bool) → (p || q || r || s) ≡ (p || (q || (r || (s || false))))
-in-order p q r s = simp (or-assoc, or-false)
-
 returns : tie.Need-returns
 unfolding anyPeak
 returns c =
     let monitors = c .before .before .before .before .before .before .before .before .args .t1 in
-    let size : length monitors ≡ 4 = omega arith in
-    in-order (c .before .before .before .before .before .before .on-peak .result)
-    (c .before .before .before .before .on-peak2 .result)
-    (c .before .before .on-peak3 .result)
-    (c .on-peak4 .result)
-    ∙ rw (
-      four-elements freshMonitor monitors size,
+    simp or-assoc
+    (rw (
+      four-elements freshMonitor monitors (omega arith),
       c .before .before .before .before .before .before .on-peak .ensures,
       c .before .before .before .before .on-peak2 .ensures,
       c .before .before .on-peak3 .ensures,
       c .on-peak4 .ensures,
-    )
+      or-false,
+    ))
 
 pub any-peak-spec : {M : Type 1} → statement M
 any-peak-spec =

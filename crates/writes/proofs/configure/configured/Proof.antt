@@ -1,8 +1,6 @@
 -- `writes::configure::configured` meets its contract: set, or set and then cleared. Assumes nothing.
 use borrow.Author.Needs.{needs}
-use mathlib.Core.Path.{_≡_}
-use Rattle.model.specs.declared.Phy.{Phy}
-use Rattle.model.specs.Writes.{clearOn, configured}
+use Rattle.model.specs.Writes.{configured}
 use Rattle.writes.proofs.configure.configured.Statement.{statement}
 use Rattle.writes.proofs.configure.configured.Tie as tie
 
@@ -12,13 +10,9 @@ set-on-requires c κs = search needs
 clear-on-requires : tie.Need-clear-on-requires
 clear-on-requires c κs = search needs
 
--- what is cleared is what was set
-clear-of : {after set x : Phy} → after ≡ clearOn set → set ≡ x → after ≡ clearOn x
-clear-of is-cleared is-set = cc
-
 returns : tie.Need-returns
 unfolding configured
-returns c = rw (c .before .before .if1 .taken) (search (clear-of))
+returns c = rw (c .before .before .if1 .taken, c .clear-on .ensures, c .before .set-on .ensures)
 
 set-on-requires-2 : tie.Need-set-on-requires-2
 set-on-requires-2 c κs = search needs

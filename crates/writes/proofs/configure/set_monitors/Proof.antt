@@ -1,8 +1,6 @@
 -- `writes::configure::set_monitors` meets its contract: the four monitors that it reads are all there are. Assumes nothing.
 use borrow.Author.Needs.{needs}
 use native.Mathlib.Omega.{arith}
-use mathlib.Core.Path.{_≡_}
-use lib.ListN.{length}
 use Rattle.model.specs.Shelf.{freshMonitor}
 use Rattle.model.specs.Writes.{setMonitors}
 use Rattle.counters.proofs.Four.{four-elements}
@@ -37,9 +35,8 @@ returns : tie.Need-returns
 unfolding setMonitors
 returns c =
     let monitors = c .before .before .before .before .before .before .before .before .before .args .t3 in
-    let size : length monitors ≡ 4 = omega arith in
     rw (
-      four-elements freshMonitor monitors size,
+      four-elements freshMonitor monitors (omega arith),
       c .before .before .before .before .before .before .set-if-described .ensures,
       c .before .before .before .before .set-if-described2 .ensures,
       c .before .before .set-if-described3 .ensures,

@@ -3,6 +3,7 @@
 use borrow.Author.Needs.{needs}
 use borrow.Author.Tests.{not-true, not-false}
 use Prim.Native.Nat.{ℕ, suc, _+_, _-_, _≤_, _<_}
+use native.Mathlib.Nat.{sub-zero}
 use native.Mathlib.Numerals.{add-one}
 use native.Mathlib.Omega.{arith}
 use mathlib.Core.Path.{_≡_, sym, _∙_}
@@ -11,12 +12,6 @@ use mathlib.Core.List.{List}
 use Rattle.model.specs.Request.{descriptorSource, allowed, firstUnsupported}
 use Rattle.writes.proofs.descriptors.first_unsupported.Statement.{statement}
 use Rattle.writes.proofs.descriptors.first_unsupported.Tie as tie
-
--- before the first descriptor all are left
-all-left : (frame : List ℕ) (d : ℕ) → firstUnsupported frame (d - 0) 0 ≡ firstUnsupported frame d 0
-all-left frame d =
-    let all : d - 0 ≡ d = omega arith in
-    rw all
 
 -- past the last there is none
 none-left : (frame : List ℕ) (d i : ℕ) → i ≡ d → d ≡ firstUnsupported frame (d - i) i
@@ -41,7 +36,7 @@ abbrev μ-loop : tie.MeasureT-loop
 μ-loop frame d i₀ i = d - i
 
 loop-holds : tie.Need-loop-holds Inv-loop μ-loop
-loop-holds c = (omega arith, all-left _ _)
+loop-holds c = (omega arith, rw sub-zero)
 
 descriptor-source-requires : tie.Need-descriptor-source-requires Inv-loop μ-loop
 descriptor-source-requires c κs = search needs
