@@ -12,7 +12,7 @@ use Rattle.broadcasts.proofs.report_broadcast.Statement.{statement}
 use Rattle.broadcasts.proofs.report_broadcast.Tie as tie
 
 returns : tie.Need-returns
-returns c = none-sent _ _ (c .if1 .taken)
+returns c = none-sent (c .before .before .args .out .now) _ (omega arith)
 
 list-all-requires : tie.Need-list-all-requires
 list-all-requires c κs = search needs

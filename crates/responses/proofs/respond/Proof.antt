@@ -8,7 +8,7 @@ use Rattle.responses.proofs.respond.Statement.{statement}
 use Rattle.responses.proofs.respond.Tie as tie
 
 returns : tie.Need-returns
-returns c = none-sent _ _ (c .if1 .taken)
+returns c = none-sent (c .before .before .args .out .now) _ (omega arith)
 
 enum-told : tie.Need-enum-told
 enum-told c = search needs

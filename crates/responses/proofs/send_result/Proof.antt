@@ -6,7 +6,7 @@ use Rattle.responses.proofs.send_result.Statement.{statement}
 use Rattle.responses.proofs.send_result.Tie as tie
 
 returns : tie.Need-returns
-returns c = none-sent _ _ (c .if1 .taken)
+returns c = none-sent (c .before .before .args .out .now) _ (omega arith)
 
 result-code-requires : tie.Need-result-code-requires
 result-code-requires c κs = search needs
