@@ -1,6 +1,8 @@
 -- `writes::configure::configured` meets its contract: set, or set and then cleared. Assumes nothing.
 use borrow.Author.Needs.{needs}
-use Rattle.model.specs.Writes.{configured}
+use mathlib.Core.Path.{_≡_}
+use Rattle.model.specs.declared.Phy.{Phy}
+use Rattle.model.specs.Writes.{clearOn, configured}
 use Rattle.writes.proofs.configure.configured.Statement.{statement}
 use Rattle.writes.proofs.configure.configured.Tie as tie
 
@@ -10,9 +12,13 @@ set-on-requires c κs = search needs
 clear-on-requires : tie.Need-clear-on-requires
 clear-on-requires c κs = search needs
 
+-- What is cleared is what was set. It is found by `search`, so that the two calls in the other order are refused at the claim.
+clear-of : {after set x : Phy} → after ≡ clearOn set → set ≡ x → after ≡ clearOn x
+clear-of is-cleared is-set = cc
+
 returns : tie.Need-returns
 unfolding configured
-returns c = rw (c .before .before .if1 .taken, c .clear-on .ensures, c .before .set-on .ensures)
+returns c = rw (c .before .before .if1 .taken) (search (clear-of))
 
 set-on-requires-2 : tie.Need-set-on-requires-2
 set-on-requires-2 c κs = search needs
