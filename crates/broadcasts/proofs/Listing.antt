@@ -1,6 +1,5 @@
 -- Writing the list of a 06h into the lent buffer, part after part. Assumes nothing.
-use Prim.Native.Nat.{ℕ, suc, _+_, _*_, _≤_}
-use native.Mathlib.Nat.{add-zero, add-suc, suc-add}
+use Prim.Native.Nat.{ℕ, _+_, _*_, _≤_}
 use native.Mathlib.Omega.{arith}
 use mathlib.Core.Path.{_≡_, refl, ap, _∙_}
 use mathlib.Core.List.{List, [], _∷_, _++_, append-assoc}
@@ -8,13 +7,9 @@ use lib.ListN.{length, take, drop, length-append}
 use lib.Seq.{sets, sets-eq, length-sets, length-take-le, take-length, drop-at}
 use Rattle.model.specs.Reply.{Broadcast, broadcastBytes}
 use Rattle.model.specs.Server.{over}
+use Rattle.model.proofs.Laws.Places.{sets-append}
 use Rattle.model.proofs.Plain.Reply.{broadcast-bytes-length}
 use Rattle.broadcasts.specs.Listed.{listedFrom, Lists}
-
--- bytes after bytes are both from the first place on
-sets-append : (out xs ys : List ℕ) (at : ℕ) → sets (sets out at xs) (at + length xs) ys ≡ sets out at (xs ++ ys)
-sets-append out [] ys at = rw add-zero
-sets-append out (x ∷ xs) ys at = rw (add-suc, ← suc-add) (sets-append _ xs ys (suc at))
 
 descriptors-append : (xs ys : List Broadcast) → broadcastBytes (xs ++ ys) ≡ broadcastBytes xs ++ broadcastBytes ys
 unfolding broadcastBytes

@@ -1,9 +1,10 @@
 -- What holds at each place of a list, past the end too: a change at one place, a change of every element and a run of stores keep it.
 -- Assumes nothing.
-use Prim.Native.Nat.{ℕ, zero, suc, _<_}
+use Prim.Native.Nat.{ℕ, zero, suc, _+_, _<_}
+use native.Mathlib.Nat.{add-zero, add-suc, suc-add}
 use native.Mathlib.Omega.{arith}
 use mathlib.Core.Path.{_≡_, refl, ap, _∙_}
-use mathlib.Core.List.{List, [], _∷_, map}
+use mathlib.Core.List.{List, [], _∷_, _++_, map}
 use lib.ListN.{length, getD, set, take, drop, replicate}
 use lib.Seq.{sets, getD-set-other}
 
@@ -72,6 +73,12 @@ pub sets-before : {A : Type 0} (values xs : List A) (p i : ℕ) (d : A) → i < 
 sets-before [] xs p i d h = refl
 sets-before (v ∷ values) xs p i d h =
     sets-before values (set xs p v) (suc p) i d (omega arith) ∙ getD-set-other xs p i v d (λ e. omega arith)
+
+-- values stored behind values are all stored from the first place on
+pub sets-append : {A : Type 0} (xs values others : List A) (p : ℕ)
+    → sets (sets xs p values) (p + length values) others ≡ sets xs p (values ++ others)
+sets-append xs [] others p = rw add-zero
+sets-append xs (v ∷ values) others p = rw (add-suc, ← suc-add) (sets-append (set xs p v) values others (suc p))
 
 -- a change of every element goes through a store
 pub map-set : {A B : Type 0} (f : A → B) (xs : List A) (i : ℕ) (x : A) → map f (set xs i x) ≡ set (map f xs) i (f x)

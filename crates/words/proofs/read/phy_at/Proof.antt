@@ -1,0 +1,37 @@
+-- `words::read::phy_at` meets its contract: the phy from its place on, or none. Assumes nothing.
+use borrow.Author.Needs.{needs}
+use native.Mathlib.Omega.{arith}
+use mathlib.Core.Path.{sym, _∙_}
+use Rattle.words.proofs.Reading.{phy-there, phy-past}
+use Rattle.words.proofs.read.phy_at.Statement.{statement}
+use Rattle.words.proofs.read.phy_at.Tie as tie
+use Rattle.words.proofs.read.phy_at.Reads as reads
+use Rattle.words.proofs.read.phy_at.Lts as lts
+use Rattle.shelf.proofs.phys.fresh_phy.Reads as fresh-phy-reads
+use Rattle.words.proofs.read.phy.Reads as phy-reads
+
+fresh-phy-requires : tie.Need-fresh-phy-requires
+fresh-phy-requires c κs = search needs
+
+returns : tie.Need-returns
+returns c =
+    let a = c .before .before .args in
+    c .fresh-phy .ensures ∙ sym (phy-past (a .words .now) (a .p) (omega arith))
+
+mul-phy : tie.Need-mul-phy
+mul-phy c = search needs
+
+add-phy : tie.Need-add-phy
+add-phy c = search needs
+
+phy-requires : tie.Need-phy-requires
+phy-requires c κs = search needs
+
+returns-2 : tie.Need-returns-2
+returns-2 c =
+    let a = c .before .before .args in
+    c .phy .ensures ∙ sym (phy-there (a .words .now) (a .p) (omega arith))
+
+pub phy-at-spec : {M : Type 1} → statement M
+phy-at-spec =
+    tie.close (tie.spec fresh-phy-requires returns mul-phy add-phy phy-requires returns-2)

@@ -1,0 +1,73 @@
+-- `words::store::put` meets its contract: the change count, and, where the phy has its place, its words. Assumes nothing.
+use borrow.Author.Needs.{needs}
+use Prim.Native.Nat.{_+_, _*_}
+use native.Mathlib.Omega.{arith}
+use Rattle.model.proofs.Laws.Places.{sets-before}
+use Rattle.words.specs.Words.{phyOver}
+use Rattle.words.proofs.Laying.{laid-put, laid-past}
+use Rattle.words.proofs.store.put.Statement.{statement}
+use Rattle.words.proofs.store.put.Tie as tie
+use Rattle.words.proofs.store.put.Reads as reads
+use Rattle.words.proofs.store.put.Lts as lts
+use Rattle.words.proofs.store.set_low16.Reads as set-low16-reads
+use Rattle.words.proofs.store.store_phy.Reads as store-phy-reads
+
+slice-read-set-low16 : tie.Need-slice-read-set-low16
+slice-read-set-low16 c = search needs
+
+set-low16-requires : tie.Need-set-low16-requires
+set-low16-requires c κs = search needs
+
+slice-write-all : tie.Need-slice-write-all
+slice-write-all c = search needs
+
+returns : tie.Need-returns
+returns c =
+    let a = c .before .before .before .before .args in
+    rw (c .set-low16 .ensures, laid-past (a .words .now) (omega arith) (a .p) (a .numbers) (a .changes) (omega arith))
+
+mul-store-phy : tie.Need-mul-store-phy
+mul-store-phy c = search needs
+
+add-store-phy : tie.Need-add-store-phy
+add-store-phy c = search needs
+
+store-phy-requires : tie.Need-store-phy-requires
+store-phy-requires c κs = search needs
+
+slice-read-set-low16-2 : tie.Need-slice-read-set-low16-2
+slice-read-set-low16-2 c = search needs
+
+set-low16-requires-2 : tie.Need-set-low16-requires-2
+set-low16-requires-2 c κs = search needs
+
+slice-write-all-2 : tie.Need-slice-write-all-2
+slice-write-all-2 c = search needs
+
+returns-2 : tie.Need-returns-2
+returns-2 c =
+    let stored = c .before .before .before .before in
+    let a = stored .before .before .before .before .args in
+    let at = 44 + 21 * (a .p) in
+    rw (
+      c .set-low162 .ensures,
+      stored .store-phy .ensures,
+      sets-before (phyOver (a .words .now) at (a .numbers)) (a .words .now) at 1 0 (omega arith),
+      laid-put (a .words .now) (omega arith) (a .p) (a .numbers) (a .changes) (omega arith),
+    )
+
+pub put-spec : {M : Type 1} → statement M
+put-spec =
+    tie.close
+    (tie.spec
+    slice-read-set-low16
+    set-low16-requires
+    slice-write-all
+    returns
+    mul-store-phy
+    add-store-phy
+    store-phy-requires
+    slice-read-set-low16-2
+    set-low16-requires-2
+    slice-write-all-2
+    returns-2)

@@ -1,0 +1,50 @@
+-- `words::store::put_device` meets its contract: two words hold other counts. Assumes nothing.
+use borrow.Author.Needs.{needs}
+use native.Mathlib.Omega.{arith}
+use lib.Seq.{getD-set-other}
+use Rattle.words.proofs.Laying.{laid-device}
+use Rattle.words.proofs.store.put_device.Statement.{statement}
+use Rattle.words.proofs.store.put_device.Tie as tie
+use Rattle.words.proofs.store.put_device.Reads as reads
+use Rattle.words.proofs.store.put_device.Lts as lts
+use Rattle.words.proofs.store.set_low16.Reads as set-low16-reads
+
+slice-read-set-low16 : tie.Need-slice-read-set-low16
+slice-read-set-low16 c = search needs
+
+set-low16-requires : tie.Need-set-low16-requires
+set-low16-requires c κs = search needs
+
+slice-write-all : tie.Need-slice-write-all
+slice-write-all c = search needs
+
+slice-read-set-low16-2 : tie.Need-slice-read-set-low16-2
+slice-read-set-low16-2 c = search needs
+
+set-low16-requires-2 : tie.Need-set-low16-requires-2
+set-low16-requires-2 c κs = search needs
+
+slice-write-all-2 : tie.Need-slice-write-all-2
+slice-write-all-2 c = search needs
+
+returns : tie.Need-returns
+returns c =
+    let a = c .before .before .before .before .before .args in
+    rw (
+      c .set-low162 .ensures,
+      c .before .before .set-low16 .ensures,
+      getD-set-other (a .words .now) 2 3 _ 0 (λ e. omega arith),
+      laid-device (a .words .now) (omega arith) (a .expander3) (a .ses0),
+    )
+
+pub put-device-spec : {M : Type 1} → statement M
+put-device-spec =
+    tie.close
+    (tie.spec
+    slice-read-set-low16
+    set-low16-requires
+    slice-write-all
+    slice-read-set-low16-2
+    set-low16-requires-2
+    slice-write-all-2
+    returns)

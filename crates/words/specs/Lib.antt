@@ -1,0 +1,2 @@
+-- The shelf in the firmware's memory.
+pub mod Words

@@ -1,0 +1,112 @@
+-- The shelf in the firmware's memory: 548 words of 32 bits, which C sees as `struct smp_shelf` of firmware/kinubarsil.h. Two
+-- definitions: the shelf that such words stand for, and the words with another shelf laid over them.
+--
+-- A number that is narrower than 32 bits stands in the low bits of its word; the bits above are not read, and stay.
+use Prim.Native.Nat.{ℕ, zero, suc, _+_, _*_, _/_, _%_}
+use mathlib.Core.Bool.{cond}
+use mathlib.Core.List.{List, [], _∷_, _++_, map}
+use lib.Dec.{eqb}
+use lib.ListN.{getD, take, drop, replicate}
+use Rattle.model.specs.declared.Monitor.{Monitor}
+use Rattle.model.specs.declared.Phy.{Phy}
+use Rattle.model.specs.declared.Shelf.{Shelf}
+use Rattle.model.specs.Bytes.{byte}
+use Rattle.model.specs.Reply.{errorAt, monitorAt}
+use Rattle.model.specs.Shelf.{monitor}
+
+abbrev pub wordAt : List ℕ → ℕ → ℕ
+wordAt ws i = getD ws i 0
+
+-- A word with another number in its low bits, of which there are 8 where `size` is 0x100, and 16 where it is 0x10000.
+abbrev pub lowSet : ℕ → ℕ → ℕ → ℕ
+lowSet size word n = word / size * size + n
+
+-- ---- A monitor: 3 words, from a place on
+
+abbrev pub monitorOf : List ℕ → ℕ → Monitor
+monitorOf ws at = monitor (wordAt ws at % 0x100) (wordAt ws (at + 1)) (wordAt ws (at + 2))
+
+abbrev pub monitorOver : List ℕ → ℕ → Monitor → List ℕ
+monitorOver ws at m = lowSet 0x100 (wordAt ws at) (m .source) ∷ m .value ∷ m .threshold ∷ []
+
+-- four monitors, one after another
+abbrev pub monitorsOf : List ℕ → ℕ → List Monitor
+monitorsOf ws at = monitorOf ws at ∷ monitorOf ws (at + 3) ∷ monitorOf ws (at + 6) ∷ monitorOf ws (at + 9) ∷ []
+
+abbrev pub monitorsOver : List ℕ → ℕ → Phy → List ℕ
+monitorsOver ws at x =
+    monitorOver ws at (monitorAt x 0)
+    ++ monitorOver ws (at + 3) (monitorAt x 1)
+    ++ monitorOver ws (at + 6) (monitorAt x 2)
+    ++ monitorOver ws (at + 9) (monitorAt x 3)
+
+-- ---- A phy: 21 words
+
+unfoldable pub phyOf : List ℕ → ℕ → Phy
+phyOf ws at =
+    record {
+      group = wordAt ws at;
+      enabled = eqb (wordAt ws (at + 1) % 2) 1;
+      errors = wordAt ws (at + 2) ∷ wordAt ws (at + 3) ∷ wordAt ws (at + 4) ∷ wordAt ws (at + 5) ∷ [];
+      monitors = monitorsOf ws (at + 6);
+      change0 = wordAt ws (at + 18) % 0x10000;
+      expander1 = wordAt ws (at + 19) % 0x10000;
+      expander2 = wordAt ws (at + 20) % 0x10000;
+    }
+
+-- its first six words, and its last three
+abbrev pub headOver : List ℕ → ℕ → Phy → List ℕ
+headOver ws at x =
+    x .group ∷ lowSet 2 (wordAt ws (at + 1)) (cond (x .enabled) 1 0) ∷ errorAt x 0 ∷ errorAt x 1 ∷ errorAt x 2 ∷ errorAt x 3 ∷ []
+
+abbrev pub countsOver : List ℕ → ℕ → Phy → List ℕ
+countsOver ws at x =
+    lowSet 0x10000 (wordAt ws at) (x .change0)
+    ∷ lowSet 0x10000 (wordAt ws (at + 1)) (x .expander1)
+    ∷ lowSet 0x10000 (wordAt ws (at + 2)) (x .expander2)
+    ∷ []
+
+unfoldable pub phyOver : List ℕ → ℕ → Phy → List ℕ
+phyOver ws at x = headOver ws at x ++ monitorsOver ws (at + 6) x ++ countsOver ws (at + 18) x
+
+-- n phys, one after another
+unfoldable pub physOf : ℕ → List ℕ → ℕ → List Phy
+physOf zero ws at = []
+physOf (suc n) ws at = phyOf ws at ∷ physOf n ws (at + 21)
+
+-- the words from a place on, with these phys laid over them
+unfoldable pub physOver : List ℕ → ℕ → List Phy → List ℕ
+physOver ws at [] = drop at ws
+physOver ws at (x ∷ xs) = phyOver ws at x ++ physOver ws (at + 21) xs
+
+-- ---- The shelf: 12 words that are device wide, 32 rows, and the 24 phys from word 44 on
+
+-- the places of the identifier's bytes
+abbrev pub eight : List ℕ
+eight = 0 ∷ 1 ∷ 2 ∷ 3 ∷ 4 ∷ 5 ∷ 6 ∷ 7 ∷ []
+
+unfoldable pub shelfOf : List ℕ → Shelf
+shelfOf ws =
+    record {
+      number = wordAt ws 0;
+      phys = physOf 24 ws 44;
+      table = take 32 (drop 12 ws);
+      identifier = map (λ i. wordAt ws (4 + i) % 0x100) eight;
+      changes = wordAt ws 1 % 0x10000;
+      expander3 = wordAt ws 2 % 0x10000;
+      ses0 = wordAt ws 3 % 0x10000;
+    }
+
+unfoldable pub laidOver : List ℕ → Shelf → List ℕ
+laidOver ws s =
+    (s .number
+    ∷ lowSet 0x10000 (wordAt ws 1) (s .changes)
+    ∷ lowSet 0x10000 (wordAt ws 2) (s .expander3)
+    ∷ lowSet 0x10000 (wordAt ws 3) (s .ses0)
+    ∷ map (λ i. lowSet 0x100 (wordAt ws (4 + i)) (byte (s .identifier) i)) eight)
+    ++ s .table
+    ++ physOver ws 44 (s .phys)
+
+-- the words of a shelf by itself: every bit above a number is 0
+abbrev pub wordsOf : Shelf → List ℕ
+wordsOf s = laidOver (replicate 548 0) s

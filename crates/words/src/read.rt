@@ -1,0 +1,100 @@
+// Pieces of the shelf, read out of its words.
+use model::Monitor;
+use model::Phy;
+use shelf::phys::fresh_phy;
+ghost use mathlib.Core.Path.{_≡_};
+ghost use Prim.Native.Nat.{_+_, _%_, _≤_};
+ghost use Rattle.model.specs.Shelf.{phyAt};
+ghost use Rattle.model.specs.Zone.{row};
+ghost use Rattle.words.specs.Words.{monitorOf, monitorsOf, phyOf, shelfOf};
+
+// a number of 16 bits, in the low bits of its word
+pub fn low16(word: u32) -> u16
+    ensures { λ r. ⌜ r ≡ word % 0x10000 ⌝ }
+{
+    (word % 0x10000) as u16
+}
+
+// The monitor whose words begin at a place.
+fn monitor(words: &[u32; 548], at: usize) -> Monitor
+    requires { ⌜ at + 3 ≤ 548 ⌝ }
+    ensures { λ r. ⌜ r ≡ monitorOf (now (words .entry)) at ⌝ }
+{
+    Monitor {
+        source: (words[at] % 0x100) as u8,
+        value: words[at + 1],
+        threshold: words[at + 2],
+    }
+}
+
+// Its four monitors, one after another.
+fn monitors(words: &[u32; 548], at: usize) -> [Monitor; 4]
+    requires { ⌜ at + 12 ≤ 548 ⌝ }
+    ensures { λ r. ⌜ r ≡ monitorsOf (now (words .entry)) at ⌝ }
+{
+    [
+        monitor(words, at),
+        monitor(words, at + 3),
+        monitor(words, at + 6),
+        monitor(words, at + 9),
+    ]
+}
+
+// The phy whose words begin at a place.
+fn phy(words: &[u32; 548], at: usize) -> Phy
+    requires { ⌜ at + 21 ≤ 548 ⌝ }
+    ensures { λ r. ⌜ r ≡ phyOf (now (words .entry)) at ⌝ }
+{
+    Phy {
+        group: words[at],
+        enabled: words[at + 1] % 2 == 1,
+        errors: [words[at + 2], words[at + 3], words[at + 4], words[at + 5]],
+        monitors: monitors(words, at + 6),
+        change0: (words[at + 18] % 0x10000) as u16,
+        expander1: (words[at + 19] % 0x10000) as u16,
+        expander2: (words[at + 20] % 0x10000) as u16,
+    }
+}
+
+// Phy p of the shelf. Where there is no phy stands a fresh one of group 0.
+pub fn phy_at(words: &[u32; 548], p: u32) -> Phy
+    ensures { λ r. ⌜ r ≡ phyAt (shelfOf (now (words .entry))) p ⌝ }
+{
+    if 24 <= p {
+        return fresh_phy(0);
+    }
+    phy(words, 44 + 21 * (p as usize))
+}
+
+// Row g of the table; past the last there is none, and so no bit.
+pub fn row(words: &[u32; 548], g: u32) -> u32
+    ensures { λ r. ⌜ r ≡ row (shelfOf (now (words .entry)) .table) g ⌝ }
+{
+    if 31 < g {
+        return 0;
+    }
+    words[12 + (g as usize)]
+}
+
+// a number of 8 bits, in the low bits of its word
+fn low8(word: u32) -> u8
+    ensures { λ r. ⌜ r ≡ word % 0x100 ⌝ }
+{
+    (word % 0x100) as u8
+}
+
+// The enclosure identifier, byte by byte.
+pub fn identifier(words: &[u32; 548]) -> [u8; 8]
+    ensures { λ r. ⌜ r ≡ shelfOf (now (words .entry)) .identifier ⌝ }
+{
+    [
+        low8(words[4]),
+        low8(words[5]),
+        low8(words[6]),
+        low8(words[7]),
+        low8(words[8]),
+        low8(words[9]),
+        low8(words[10]),
+        low8(words[11]),
+    ]
+}

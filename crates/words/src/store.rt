@@ -1,0 +1,128 @@
+// Pieces of the shelf, put back into its words.
+use model::Monitor;
+use model::Phy;
+ghost use mathlib.Core.Path.{_≡_};
+ghost use mathlib.Core.Bool.{cond};
+ghost use Prim.Native.Nat.{_+_, _≤_};
+ghost use lib.ListN.{length};
+ghost use lib.Seq.{sets};
+ghost use Rattle.model.specs.Shelf.{put, putDevice};
+ghost use Rattle.words.specs.Words.{lowSet, monitorOver, monitorsOver, headOver, countsOver, phyOver, shelfOf, laidOver};
+
+// a word with another bit in its lowest place
+fn set_low1(word: u32, b: bool) -> u32
+    ensures { λ r. ⌜ r ≡ lowSet 2 word (cond b 1 0) ⌝ }
+{
+    if b { word / 2 * 2 + 1 } else { word / 2 * 2 + 0 }
+}
+
+// a word with another number of 8 bits in its low bits
+fn set_low8(word: u32, n: u8) -> u32
+    ensures { λ r. ⌜ r ≡ lowSet 0x100 word n ⌝ }
+{
+    word / 0x100 * 0x100 + (n as u32)
+}
+
+// a word with another number of 16 bits in its low bits
+fn set_low16(word: u32, n: u16) -> u32
+    ensures { λ r. ⌜ r ≡ lowSet 0x10000 word n ⌝ }
+{
+    word / 0x10000 * 0x10000 + (n as u32)
+}
+
+// The first six words of a phy, over those that begin at a place: its group, enabled or not, its four error counts.
+fn head_over(words: &[u32], at: usize, numbers: Phy) -> [u32; 6]
+    requires { ⌜ at + 6 ≤ length (now words) ⌝ }
+    ensures { λ r. ⌜ r ≡ headOver (now (words .entry)) at numbers ⌝ }
+{
+    let errors = numbers.errors;
+    let enabled = set_low1(words[at + 1], numbers.enabled);
+    [
+        numbers.group,
+        enabled,
+        errors[0],
+        errors[1],
+        errors[2],
+        errors[3],
+    ]
+}
+
+// The words of a monitor.
+fn monitor_over(words: &[u32], at: usize, m: Monitor) -> [u32; 3]
+    requires { ⌜ at + 3 ≤ length (now words) ⌝ }
+    ensures { λ r. ⌜ r ≡ monitorOver (now (words .entry)) at m ⌝ }
+{
+    [set_low8(words[at], m.source), m.value, m.threshold]
+}
+
+// The words of its four monitors.
+fn monitors_over(words: &[u32], at: usize, numbers: Phy) -> [u32; 12]
+    requires { ⌜ at + 12 ≤ length (now words) ⌝ }
+    ensures { λ r. ⌜ r ≡ monitorsOver (now (words .entry)) at numbers ⌝ }
+{
+    let monitors = numbers.monitors;
+    let m0 = monitor_over(words, at, monitors[0]);
+    let m1 = monitor_over(words, at + 3, monitors[1]);
+    let m2 = monitor_over(words, at + 6, monitors[2]);
+    let m3 = monitor_over(words, at + 9, monitors[3]);
+    [
+        m0[0], m0[1], m0[2], m1[0], m1[1], m1[2], m2[0], m2[1], m2[2], m3[0], m3[1], m3[2],
+    ]
+}
+
+// The words of its three broadcast counts.
+fn counts_over(words: &[u32], at: usize, numbers: Phy) -> [u32; 3]
+    requires { ⌜ at + 3 ≤ length (now words) ⌝ }
+    ensures { λ r. ⌜ r ≡ countsOver (now (words .entry)) at numbers ⌝ }
+{
+    [
+        set_low16(words[at], numbers.change0),
+        set_low16(words[at + 1], numbers.expander1),
+        set_low16(words[at + 2], numbers.expander2),
+    ]
+}
+
+// Writes numbers over the words, from a place on.
+fn store(words: &mut [u32], at: usize, numbers: &[u32])
+    requires { ⌜ at + length (now numbers) ≤ length (now words) ⌝ }
+    ensures { λ _. ⌜ now (words .exit) ≡ sets (now (words .entry)) at (now (numbers .entry)) ⌝ }
+{
+    for i in 0..numbers.len() {
+        words[at + i] = numbers[i];
+    }
+}
+
+// Writes a phy's record over the 21 words that begin at a place.
+fn store_phy(words: &mut [u32], at: usize, numbers: Phy)
+    requires { ⌜ at + 21 ≤ length (now words) ⌝ }
+    ensures { λ _. ⌜ now (words .exit) ≡ sets (now (words .entry)) at (phyOver (now (words .entry)) at numbers) ⌝ }
+{
+    let head = head_over(words, at, numbers);
+    let monitors = monitors_over(words, at + 6, numbers);
+    let counts = counts_over(words, at + 18, numbers);
+    store(words, at, &head);
+    store(words, at + 6, &monitors);
+    store(words, at + 18, &counts);
+}
+
+// Another record for phy p, and another change count. Where there is no place for the phy, none is stored.
+pub fn put(words: &mut [u32; 548], p: u32, numbers: Phy, changes: u16)
+    ensures { λ _. ⌜ now (words .exit) ≡ laidOver (now (words .entry)) (put (shelfOf (now (words .entry))) p numbers changes) ⌝ }
+{
+    let all: &mut [u32] = words;
+    if 24 <= p {
+        all[1] = set_low16(all[1], changes);
+        return;
+    }
+    store_phy(all, 44 + 21 * (p as usize), numbers);
+    all[1] = set_low16(all[1], changes);
+}
+
+// Other counts under FFh: Expander 3h and SES 0h.
+pub fn put_device(words: &mut [u32; 548], expander3: u16, ses0: u16)
+    ensures { λ _. ⌜ now (words .exit) ≡ laidOver (now (words .entry)) (putDevice (shelfOf (now (words .entry))) expander3 ses0) ⌝ }
+{
+    let all: &mut [u32] = words;
+    all[2] = set_low16(all[2], expander3);
+    all[3] = set_low16(all[3], ses0);
+}
