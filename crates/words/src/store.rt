@@ -13,7 +13,11 @@ ghost use Rattle.words.specs.Words.{lowSet, monitorOver, monitorsOver, h
 fn set_low1(word: u32, b: bool) -> u32
     ensures { λ r. ⌜ r ≡ lowSet 2 word (cond b 1 0) ⌝ }
 {
-    if b { word / 2 * 2 + 1 } else { word / 2 * 2 + 0 }
+    if b {
+        word / 2 * 2 + 1
+    } else {
+        word / 2 * 2 + 0
+    }
 }
 
 // a word with another number of 8 bits in its low bits
@@ -66,7 +70,18 @@ fn monitors_over(words: &[u32], at: usize, numbers: Phy) -> [u32; 12]
     let m2 = monitor_over(words, at + 6, monitors[2]);
     let m3 = monitor_over(words, at + 9, monitors[3]);
     [
-        m0[0], m0[1], m0[2], m1[0], m1[1], m1[2], m2[0], m2[1], m2[2], m3[0], m3[1], m3[2],
+        m0[0],
+        m0[1],
+        m0[2],
+        m1[0],
+        m1[1],
+        m1[2],
+        m2[0],
+        m2[1],
+        m2[2],
+        m3[0],
+        m3[1],
+        m3[2],
     ]
 }
 

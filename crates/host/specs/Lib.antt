@@ -1,0 +1,2 @@
+-- What C is told.
+pub mod Told

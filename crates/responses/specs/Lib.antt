@@ -1,0 +1,2 @@
+-- The response from pieces of the shelf.
+pub mod Pieces
