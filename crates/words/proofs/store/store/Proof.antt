@@ -49,7 +49,7 @@ loop-again c =
       omega arith,
       simp length-set (turn .loop .inv .1),
       rw (add-one (turn .loop .i), turn .loop .inv .2)
-      (paste-suc (a .words .now) (a .at) (a .numbers .now) (turn .loop .i) 0 (omega arith) (omega arith)),
+          (paste-suc (a .words .now) (a .at) (a .numbers .now) (turn .loop .i) 0 (omega arith) (omega arith)),
     )
 
 same-length : tie.Need-same-length Inv-loop μ-loop
