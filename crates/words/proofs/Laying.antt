@@ -1,6 +1,6 @@
 -- Laying a shelf over its words: what it leaves as it was, and what storing one phy, or a count, comes to. Assumes nothing.
-use Prim.Native.Nat.{ℕ, zero, suc, _+_, _*_, _/_, _%_, _≤_, _<_}
-use native.Mathlib.Nat.{add-zero, add-suc, add-assoc}
+use Prim.Native.Nat.{ℕ, zero, suc, _+_, _*_, _%_, _≤_, _<_}
+use native.Mathlib.Nat.{add-assoc}
 use native.Mathlib.Omega.{arith}
 use mathlib.Core.Path.{_≡_, refl, sym, ap, _∙_}
 use mathlib.Core.Bool.{cond}
@@ -76,7 +76,7 @@ module _ (ws : List ℕ) where
   phys-same (suc n) at h =
       rw (block-same at (omega arith), phys-same n (at + 21) (omega arith), ← drop-drop 21 at ws, take-append-drop 21 (drop at ws))
 
-  block-size : (at : ℕ) (x : Phy) → length (phyOver ws at x) ≡ 21
+  pub block-size : (at : ℕ) (x : Phy) → length (phyOver ws at x) ≡ 21
   unfolding phyOver
   block-size at x = refl
 

@@ -1,3 +1,13 @@
 -- Laws about the words of a shelf, and that each public promise settles its outcome.
+
+-- where a piece stands, and what storing a piece or a whole shelf comes to
 pub mod Reading
 pub mod Laying
+pub mod Whole
+-- words and shelf fit together, and so after every call
+pub mod Lens
+pub mod Steps
+-- the layout on numbers
+pub mod Vectors
+-- every public promise settles its outcome
+pub mod Settled

@@ -1,13 +1,17 @@
-// Pieces of the shelf, put back into its words.
+// Pieces of the shelf, put back into its words, and a whole shelf laid into them.
 use model::Monitor;
 use model::Phy;
+use model::Shelf;
 ghost use mathlib.Core.Path.{_≡_};
 ghost use mathlib.Core.Bool.{cond};
 ghost use Prim.Native.Nat.{_+_, _≤_};
-ghost use lib.ListN.{length};
+ghost use mathlib.Core.List.{_∷_, _++_, map};
+ghost use lib.ListN.{length, take, drop};
 ghost use lib.Seq.{sets};
+ghost use Rattle.model.specs.Bytes.{byte};
 ghost use Rattle.model.specs.Shelf.{put, putDevice};
-ghost use Rattle.words.specs.Words.{lowSet, monitorOver, monitorsOver, headOver, countsOver, phyOver, shelfOf, laidOver};
+ghost use Rattle.words.specs.Words.{lowSet, monitorOver, monitorsOver, headOver, countsOver, phyOver};
+ghost use Rattle.words.specs.Words.{physOver, eight, shelfOf, laidOver, wordsOf};
 
 // a word with another bit in its lowest place
 fn set_low1(word: u32, b: bool) -> u32
@@ -140,4 +144,69 @@ pub fn put_device(words: &mut [u32; 548], expander3: u16, ses0: u16)
     let all: &mut [u32] = words;
     all[2] = set_low16(all[2], expander3);
     all[3] = set_low16(all[3], ses0);
+}
+
+// Writes the words of the phys over those that are there, from word 44 on.
+fn lay_phys(words: &mut [u32], phys: [Phy; 24])
+    requires { ⌜ length (now words) ≡ 548 ⌝ }
+    ensures { λ _. ⌜ now (words .exit) ≡ take 44 (now (words .entry)) ++ physOver (now (words .entry)) 44 phys ⌝ }
+{
+    for p in 0..24usize {
+        store_phy(words, 44 + 21 * p, phys[p]);
+    }
+}
+
+// The 12 device wide words, where every bit above a number is 0.
+fn device_words(
+    number: u32,
+    changes: u16,
+    expander3: u16,
+    ses0: u16,
+    identifier: [u8; 8],
+) -> [u32; 12]
+    ensures { λ r. ⌜ r ≡ number ∷ changes ∷ expander3 ∷ ses0 ∷ map (byte identifier) eight ⌝ }
+{
+    [
+        number,
+        changes as u32,
+        expander3 as u32,
+        ses0 as u32,
+        identifier[0] as u32,
+        identifier[1] as u32,
+        identifier[2] as u32,
+        identifier[3] as u32,
+        identifier[4] as u32,
+        identifier[5] as u32,
+        identifier[6] as u32,
+        identifier[7] as u32,
+    ]
+}
+
+// Writes the words before the phys: the 12 device wide ones, and the 32 rows.
+fn lay_front(words: &mut [u32], device: [u32; 12], table: [u32; 32])
+    requires { ⌜ length (now words) ≡ 548 ⌝ }
+    ensures { λ _. ⌜ now (words .exit) ≡ device ++ table ++ drop 44 (now (words .entry)) ⌝ }
+{
+    store(words, 0, &device);
+    store(words, 12, &table);
+}
+
+// Writes a whole shelf, as at a start: every bit above a number is 0.
+pub fn lay(words: &mut [u32; 548], shelf: Shelf)
+    ensures { λ _. ⌜ now (words .exit) ≡ wordsOf shelf ⌝ }
+{
+    let phys = shelf.phys;
+    let table = shelf.table;
+    let identifier = shelf.identifier;
+    let device = device_words(
+        shelf.number,
+        shelf.changes,
+        shelf.expander3,
+        shelf.ses0,
+        identifier,
+    );
+    let all: &mut [u32] = words;
+    store(all, 0, &[0; 548]);
+    lay_phys(all, phys);
+    lay_front(all, device, table);
 }

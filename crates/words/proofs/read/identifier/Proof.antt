@@ -2,9 +2,6 @@ use borrow.Author.Needs.{needs}
 use Rattle.words.specs.Words.{shelfOf}
 use Rattle.words.proofs.read.identifier.Statement.{statement}
 use Rattle.words.proofs.read.identifier.Tie as tie
-use Rattle.words.proofs.read.identifier.Reads as reads
-use Rattle.words.proofs.read.identifier.Lts as lts
-use Rattle.words.proofs.read.low8.Reads as low8-reads
 
 element-copy-out-low8 : tie.Need-element-copy-out-low8
 element-copy-out-low8 c = search needs

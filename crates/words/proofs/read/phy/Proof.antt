@@ -1,10 +1,8 @@
+-- `words::read::phy` meets its contract: a number of its own for each word, and four monitors. Assumes nothing.
 use borrow.Author.Needs.{needs}
 use Rattle.words.specs.Words.{phyOf}
 use Rattle.words.proofs.read.phy.Statement.{statement}
 use Rattle.words.proofs.read.phy.Tie as tie
-use Rattle.words.proofs.read.phy.Reads as reads
-use Rattle.words.proofs.read.phy.Lts as lts
-use Rattle.words.proofs.read.monitors.Reads as monitors-reads
 
 mul-t3 : tie.Need-mul-t3
 mul-t3 c = search needs

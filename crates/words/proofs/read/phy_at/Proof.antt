@@ -5,10 +5,6 @@ use mathlib.Core.Path.{sym, _∙_}
 use Rattle.words.proofs.Reading.{phy-there, phy-past}
 use Rattle.words.proofs.read.phy_at.Statement.{statement}
 use Rattle.words.proofs.read.phy_at.Tie as tie
-use Rattle.words.proofs.read.phy_at.Reads as reads
-use Rattle.words.proofs.read.phy_at.Lts as lts
-use Rattle.shelf.proofs.phys.fresh_phy.Reads as fresh-phy-reads
-use Rattle.words.proofs.read.phy.Reads as phy-reads
 
 fresh-phy-requires : tie.Need-fresh-phy-requires
 fresh-phy-requires c κs = search needs

@@ -5,8 +5,6 @@ use mathlib.Core.Path.{sym}
 use Rattle.words.proofs.Reading.{row-there, row-past}
 use Rattle.words.proofs.read.row.Statement.{statement}
 use Rattle.words.proofs.read.row.Tie as tie
-use Rattle.words.proofs.read.row.Reads as reads
-use Rattle.words.proofs.read.row.Lts as lts
 
 returns : tie.Need-returns
 returns c =

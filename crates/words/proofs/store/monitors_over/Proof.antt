@@ -1,9 +1,7 @@
+-- `words::store::monitors_over` meets its contract: three words of each monitor, one after another. Assumes nothing.
 use borrow.Author.Needs.{needs}
 use Rattle.words.proofs.store.monitors_over.Statement.{statement}
 use Rattle.words.proofs.store.monitors_over.Tie as tie
-use Rattle.words.proofs.store.monitors_over.Reads as reads
-use Rattle.words.proofs.store.monitors_over.Lts as lts
-use Rattle.words.proofs.store.monitor_over.Reads as monitor-over-reads
 
 array-copy-out-monitor-over : tie.Need-array-copy-out-monitor-over
 array-copy-out-monitor-over c = search needs

@@ -7,10 +7,6 @@ use Rattle.words.specs.Words.{phyOver}
 use Rattle.words.proofs.Laying.{laid-put, laid-past}
 use Rattle.words.proofs.store.put.Statement.{statement}
 use Rattle.words.proofs.store.put.Tie as tie
-use Rattle.words.proofs.store.put.Reads as reads
-use Rattle.words.proofs.store.put.Lts as lts
-use Rattle.words.proofs.store.set_low16.Reads as set-low16-reads
-use Rattle.words.proofs.store.store_phy.Reads as store-phy-reads
 
 slice-read-set-low16 : tie.Need-slice-read-set-low16
 slice-read-set-low16 c = search needs

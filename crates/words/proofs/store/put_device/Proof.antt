@@ -5,9 +5,6 @@ use lib.Seq.{getD-set-other}
 use Rattle.words.proofs.Laying.{laid-device}
 use Rattle.words.proofs.store.put_device.Statement.{statement}
 use Rattle.words.proofs.store.put_device.Tie as tie
-use Rattle.words.proofs.store.put_device.Reads as reads
-use Rattle.words.proofs.store.put_device.Lts as lts
-use Rattle.words.proofs.store.set_low16.Reads as set-low16-reads
 
 slice-read-set-low16 : tie.Need-slice-read-set-low16
 slice-read-set-low16 c = search needs

@@ -3,12 +3,6 @@ use borrow.Author.Needs.{needs}
 use Rattle.words.proofs.Laying.{block-stored}
 use Rattle.words.proofs.store.store_phy.Statement.{statement}
 use Rattle.words.proofs.store.store_phy.Tie as tie
-use Rattle.words.proofs.store.store_phy.Reads as reads
-use Rattle.words.proofs.store.store_phy.Lts as lts
-use Rattle.words.proofs.store.counts_over.Reads as counts-over-reads
-use Rattle.words.proofs.store.head_over.Reads as head-over-reads
-use Rattle.words.proofs.store.monitors_over.Reads as monitors-over-reads
-use Rattle.words.proofs.store.store.Reads as store-reads
 
 head-over-requires : tie.Need-head-over-requires
 head-over-requires c κs = search needs
