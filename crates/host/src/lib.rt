@@ -4,9 +4,11 @@
 // decide and count on them by value, and puts back at most one phy's record and the counts. C's side of the interface
 // is firmware/kinubarsil.h; what C is told is one number, by one coding (specs/Told.antt). Each promise says all of
 // what the call comes to: the number, the words afterwards, and the lent buffer afterwards.
+mod reach;
 mod request;
 mod told;
 
+use crate::reach::reach_set;
 use crate::request::decide;
 use crate::request::effect;
 use crate::request::respond;
@@ -25,16 +27,42 @@ use model::Taken;
 use reports::event_taken;
 use responses::send_result;
 use shelf::phys::exists;
+use shelf::start::start;
 use words::read::low16;
 use words::read::phy_at;
+use words::store::lay;
 use words::store::put;
 use words::store::put_device;
 ghost use mathlib.Core.Path.{_≡_};
 ghost use mathlib.Core.Bool.{cond};
 ghost use Rattle.model.specs.Reports.{event, linkChange, reducedFunctionality, sesNotice};
+ghost use Rattle.model.specs.Reach.{reachQuery};
+ghost use Rattle.model.specs.Shelf.{start};
 ghost use Rattle.model.specs.Server.{served, lentAfter};
-ghost use Rattle.host.specs.Told.{takenTold, answerTold};
+ghost use Rattle.host.specs.Told.{takenTold, answerTold, reachTold, startedWords};
 ghost use Rattle.words.specs.Words.{shelfOf, laidOver};
+
+// A start: the fresh shelf is laid into the words; or it is refused, H1, H2 or H3, and they are as they were.
+#[no_mangle]
+pub extern "C" fn smp_start(
+    shelf: &mut [u32; 548],
+    number: u32,
+    groups: &[u32; 24],
+    table: &[u32; 32],
+    identifier: &[u8; 8],
+) -> u32
+    ensures told { λ r. ⌜ r ≡ takenTold (start number (now (groups .entry)) (now (table .entry)) (now (identifier .entry)) .taken) ⌝ }
+    ensures kept { λ _. ⌜ now (shelf .exit) ≡ startedWords (now (shelf .entry)) (start number (now (groups .entry)) (now (table .entry)) (now (identifier .entry))) ⌝ }
+{
+    let outcome = start(number, *groups, *table, *identifier);
+    let taken = outcome.taken;
+    let Taken::Done = taken else {
+        return taken_told(taken);
+    };
+    let fresh = outcome.shelf;
+    lay(shelf, fresh);
+    0
+}
 
 // One request. Tells the length of the response in the lent buffer, or H4, H5 or H6.
 #[no_mangle]
@@ -116,4 +144,16 @@ pub extern "C" fn smp_notice(shelf: &mut [u32; 548], ses: bool) -> u32
     }
     put_device(shelf, originate(expander3), ses0);
     0
+}
+
+// The reach query: the set of phys that a source group reaches and how many they are, or H4.
+#[no_mangle]
+pub extern "C" fn smp_reach(shelf: &[u32; 548], source: u32) -> u32
+    ensures { λ r. ⌜ r ≡ reachTold (reachQuery (shelfOf (now (shelf .entry))) source) ⌝ }
+{
+    if 31 < source {
+        return refused_told(House::SourceGroup);
+    }
+    let phys = reach_set(shelf, source);
+    u32::count_ones(phys) * 0x1000000 + phys
 }

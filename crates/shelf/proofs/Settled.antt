@@ -7,6 +7,7 @@ use Rattle.shelf.proofs.phys.exists
 use Rattle.shelf.proofs.phys.fresh_phy
 use Rattle.shelf.proofs.phys.phy_at
 use Rattle.shelf.proofs.phys.put
+use Rattle.shelf.proofs.reach.phy_bit
 use Rattle.shelf.proofs.reach.reach_query
 use Rattle.shelf.proofs.start.start_taken
 use Rattle.shelf.proofs.start.start
@@ -27,6 +28,9 @@ phy-at-settled = value-settles _ _ _ (λ κs a x y. refl)
 
 pub put-settled : Settled put.Kinds.ps put.Kinds.r put.Reads.Pre put.Reads.Post
 put-settled = value-settles _ _ _ (λ κs a x y. refl)
+
+pub phy-bit-settled : Settled phy_bit.Kinds.ps phy_bit.Kinds.r phy_bit.Reads.Pre phy_bit.Reads.Post
+phy-bit-settled = value-settles _ _ _ (λ κs a x y. refl)
 
 pub reach-query-settled : Settled reach_query.Kinds.ps reach_query.Kinds.r reach_query.Reads.Pre reach_query.Reads.Post
 reach-query-settled = value-settles _ _ _ (λ κs a x y. refl)

@@ -6,6 +6,7 @@ use native.Mathlib.Numerals.{add-one}
 use native.Mathlib.Omega.{arith}
 use mathlib.Core.Path.{_≡_, _∙_}
 use mathlib.Core.Bool.{Bool}
+use borrow.Author.Tests.{lt-ltb}
 use mathlib.Core.List.{List}
 use lib.ListN.{getD}
 use Rattle.model.specs.declared.Phy.{Phy}
@@ -54,7 +55,10 @@ added : (c : tie.After-phy-bit Inv-loop μ-loop)
     → c .before .before .before .loop .set + c .phy-bit .result
     ≡ powers (c .before .before .before .loop .p + 1) (reachedHere c)
 unfolding sumBelow
-added c = rw add-one (cc)
+added c =
+    let turn = c .before .before .before in
+    let bit = rw (lt-ltb (turn .loop .p) 24 (omega arith)) at (c .phy-bit .ensures) in
+    rw add-one (cc)
 
 add-set : tie.Need-add-set Inv-loop μ-loop
 add-set c = rw (added c) (record { fits = powers-fit 32 _ (reachedHere c) (omega arith) })

@@ -1,0 +1,39 @@
+-- `host::smp_start` meets its contract: the fresh shelf's words, or the refusal. Assumes nothing.
+use borrow.Author.Needs.{needs}
+use mathlib.Core.Path.{refl, sym, ap, _∙_}
+use Rattle.model.specs.declared.Outcome.{Outcome}
+use Rattle.host.proofs.smp_start.Statement.{statement}
+use Rattle.host.proofs.smp_start.Tie as tie
+
+start-requires : tie.Need-start-requires
+start-requires c κs = search needs
+
+enum-told : tie.Need-enum-told
+enum-told c = search needs
+
+enum-told-2 : tie.Need-enum-told-2
+enum-told-2 c = search needs
+
+taken-told-requires : tie.Need-taken-told-requires
+taken-told-requires c κs = search needs
+
+returns : tie.Need-returns
+returns c = ?
+
+lay-requires : tie.Need-lay-requires
+lay-requires c κs = search needs
+
+returns-2 : tie.Need-returns-2
+returns-2 c = ?
+
+pub smp-start-spec : {M : Type 1} → statement M
+smp-start-spec =
+    tie.close
+    (tie.spec
+    start-requires
+    enum-told
+    enum-told-2
+    taken-told-requires
+    returns
+    lay-requires
+    returns-2)
