@@ -1,4 +1,6 @@
 -- Laws of the list as it is written part by part.
 pub mod Listing
+-- The walk over the phys, which both loops go.
+pub mod Walk
 -- Each public promise settles its outcome.
 pub mod Settled

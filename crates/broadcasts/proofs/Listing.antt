@@ -5,10 +5,14 @@ use mathlib.Core.Path.{_≡_, refl, ap, _∙_}
 use mathlib.Core.List.{List, [], _∷_, _++_, append-assoc}
 use lib.ListN.{length, take, drop, length-append}
 use lib.Seq.{sets, sets-eq, length-sets, length-take-le, take-length, drop-at}
-use Rattle.model.specs.Reply.{Broadcast, broadcastBytes}
+use Rattle.model.specs.declared.Shelf.{Shelf}
+use Rattle.model.specs.Reply.{Broadcast, broadcasts, broadcastBytes, broadcastHead, reportBroadcast}
 use Rattle.model.specs.Server.{over}
+use Rattle.model.proofs.Demands.Frames.{broadcasts-few}
 use Rattle.model.proofs.Laws.Places.{sets-append}
 use Rattle.model.proofs.Plain.Reply.{broadcast-bytes-length}
+use Rattle.replies.specs.Sent.{Sent}
+use Rattle.replies.proofs.Sending.{has-room}
 use Rattle.broadcasts.specs.Listed.{listedFrom, Lists}
 
 descriptors-append : (xs ys : List Broadcast) → broadcastBytes (xs ++ ys) ≡ broadcastBytes xs ++ broadcastBytes ys
@@ -37,8 +41,8 @@ pub lists-length : (out : List ℕ) (n : ℕ) {after : List ℕ} {number : ℕ} 
     → length after ≡ length out
 lists-length out n bs (e, b) = ap length b ∙ length-sets out (8 + 8 * n) (broadcastBytes bs)
 
--- the head laid over the front of the list makes the response, and the old rest stands behind it
-pub headed : (out head : List ℕ) (bs : List Broadcast) → length head ≡ 8 → 8 + 8 * length bs ≤ length out
+-- the head laid over the front of the list makes the frame, and the old rest stands behind it
+headed : (out head : List ℕ) (bs : List Broadcast) → length head ≡ 8 → 8 + 8 * length bs ≤ length out
     → take (length head) head ++ drop (length head) (listedFrom out 0 bs) ≡ over out (head ++ broadcastBytes bs)
 headed out head bs eight room =
     let bytes = broadcastBytes bs in
@@ -48,3 +52,19 @@ headed out head bs eight room =
     rw (sets-eq bytes out 8 fits, append-assoc (take 8 out) bytes rest)
     (drop-at (take 8 out) (bytes ++ rest) 8 (length-take-le 8 out (omega arith))) in
     rw (take-length, length-append, eight, behind, append-assoc)
+
+-- So the response has been sent. Of the head is known what was copied, and that it is a definition's.
+pub report-sent : (s : Shelf) (source kind : ℕ) (out : List ℕ) {head listed after : List ℕ} {n size : ℕ} → 1028 ≤ length out
+    → Lists out 0 (broadcasts s source kind) n listed → head ≡ broadcastHead (s .changes) kind n
+    → after ≡ take (length head) head ++ drop (length head) listed → size ≡ 8 + 8 * n
+    → Sent out (reportBroadcast s source kind) size after
+unfolding reportBroadcast
+report-sent s source kind out {head} {n} room (e, list) made copied size =
+    let bs = broadcasts s source kind in
+    let number : n ≡ length bs = omega (arith, e) in
+    let known = rw number at made in
+    let few = broadcasts-few s source kind in
+    rw (has-room out (reportBroadcast s source kind) room) (
+      simp length-append (omega (arith, broadcast-bytes-length bs)),
+      rw (copied, list, headed out head bs (ap length known) (omega (arith, few)), known),
+    )

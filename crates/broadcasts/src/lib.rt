@@ -1,9 +1,12 @@
 // 06h: "Every non-zero count of that type that the source may see is listed: FFh first, then phys
 // rising, then reason rising." The list is written into the lent buffer as it is walked.
 //
-// `report_broadcast` asks nothing of its caller. The functions that it rests on are private: they ask for room,
-// and for no more descriptors than there can be, which are 49: one under FFh and two for each of 24 phys.
+// `report_broadcast` asks nothing of its caller, and neither does `memory::report_broadcast_words`, which reads the
+// shelf from its words. The functions that they rest on are private: they ask for room, and for no more
+// descriptors than there can be, which are 49: one under FFh and two for each of 24 phys.
 // (`kind` is the broadcast type; `type` is a word of the language.)
+pub mod memory;
+
 use gate::zone::smp_row_reaches;
 use model::Phy;
 use model::Shelf;
@@ -35,7 +38,7 @@ fn list(out: &mut [u8], n: u8, phy: u8, reason: u8, count: u16) -> u8
 }
 
 // The count under FFh: "two broadcast counts under FFh: Expander 3h (reduced functionality) and SES 0h".
-fn list_device(out: &mut [u8], kind: u8, expander3: u16, ses0: u16) -> u8
+pub(crate) fn list_device(out: &mut [u8], kind: u8, expander3: u16, ses0: u16) -> u8
     requires { ⌜ 1028 ≤ length (now out) ⌝ }
     ensures { λ r. ⌜ Lists (now (out .entry)) 0 (deviceListed kind expander3 ses0) r (now (out .exit)) ⌝ }
 {
@@ -63,7 +66,7 @@ fn list_phy(out: &mut [u8], n: u8, kind: u8, phy: u8, numbers: Phy) -> u8
 }
 
 // .. if the source sees the phy: "A source sees FFh and the phys it reaches."
-fn list_seen(out: &mut [u8], n: u8, row: u32, kind: u8, phy: u8, numbers: Phy) -> u8
+pub(crate) fn list_seen(out: &mut [u8], n: u8, row: u32, kind: u8, phy: u8, numbers: Phy) -> u8
     requires { ⌜ 1028 ≤ length (now out) ⌝ }
     requires { ⌜ n ≤ 47 ⌝ }
     ensures { λ r. ⌜ Lists (now (out .entry)) n (seenListed row kind phy numbers) r (now (out .exit)) ⌝ }
@@ -91,7 +94,7 @@ fn list_all(shelf: Shelf, source: u32, kind: u8, out: &mut [u8]) -> u8
 }
 
 // "Response: 6 type, 7 number n, .. length 1 + 2n": the 8 bytes before the list.
-fn broadcast_head(changes: u16, kind: u8, n: u8) -> [u8; 8]
+pub(crate) fn broadcast_head(changes: u16, kind: u8, n: u8) -> [u8; 8]
     requires { ⌜ n ≤ 49 ⌝ }
     ensures { λ r. ⌜ r ≡ broadcastHead changes kind n ⌝ }
 {

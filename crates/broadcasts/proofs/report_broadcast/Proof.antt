@@ -1,13 +1,9 @@
 -- `broadcasts::report_broadcast` meets its contract: the list, and then its head in front of it. Assumes nothing.
 use borrow.Author.Needs.{needs}
 use native.Mathlib.Omega.{arith}
-use mathlib.Core.Path.{_≡_, ap}
-use lib.ListN.{length, length-append}
-use Rattle.model.specs.Reply.{broadcasts, reportBroadcast}
 use Rattle.model.proofs.Demands.Frames.{broadcasts-few}
-use Rattle.model.proofs.Plain.Reply.{broadcast-bytes-length}
-use Rattle.replies.proofs.Sending.{none-sent, has-room}
-use Rattle.broadcasts.proofs.Listing.{headed}
+use Rattle.replies.proofs.Sending.{none-sent}
+use Rattle.broadcasts.proofs.Listing.{report-sent}
 use Rattle.broadcasts.proofs.report_broadcast.Statement.{statement}
 use Rattle.broadcasts.proofs.report_broadcast.Tie as tie
 
@@ -42,25 +38,13 @@ same-length : tie.Need-same-length
 same-length c = search needs
 
 returns-2 : tie.Need-returns-2
-unfolding reportBroadcast
 returns-2 c =
     let copied = c .before .before in
     let made = copied .before .before .before in
     let walked = made .before .before .before in
     let a = walked .before .before .before .before .args in
-    let bs = broadcasts (a .shelf) (a .source) (a .kind) in
-    let number : walked .list-all .result ≡ length bs = omega (arith, walked .list-all .ensures .0) in
-    let head = rw number at (made .broadcast-head .ensures) in
-    let few = broadcasts-few (a .shelf) (a .source) (a .kind) in
-    rw (has-room (a .out .now) (reportBroadcast (a .shelf) (a .source) (a .kind)) (omega arith)) (
-      simp length-append (omega (arith, number, broadcast-bytes-length bs)),
-      rw (
-        copied .copy .ensures .1,
-        walked .list-all .ensures .1,
-        headed (a .out .now) (made .broadcast-head .result) bs (ap length head) (omega (arith, few)),
-        head,
-      ),
-    )
+    report-sent (a .shelf) (a .source) (a .kind) (a .out .now) (omega arith)
+    (walked .list-all .ensures) (made .broadcast-head .ensures) (copied .copy .ensures .1) (omega arith)
 
 pub report-broadcast-spec : {M : Type 1} → statement M
 report-broadcast-spec =
