@@ -1,6 +1,7 @@
 // One request on the shelf in C's memory: the pieces are taken out of its words, the other crates decide on them and
 // make the response, and a write's record is put back.
 use crate::told::refused_told;
+use broadcasts::memory::report_broadcast_words;
 use counters::counts::originate;
 use gate::frame::phy_of;
 use gate::zone::smp_row_reaches;
@@ -78,7 +79,7 @@ pub(crate) fn respond(words: &[u32; 548], source: u32, request: Request, out: &m
             out,
         );
     };
-    0
+    report_broadcast_words(words, source, kind, out)
 }
 
 // An accepted 91h: another record for its phy, and, where Change is originated, the change count.

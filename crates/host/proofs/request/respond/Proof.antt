@@ -65,8 +65,17 @@ returns c =
     ) at (sent .respond-from .ensures) in
     rw (from-pieces (shelfOf (a .words .now)) (a .source) (a .request) (other .match .keys2)) at pieces
 
+report-broadcast-words-requires : tie.Need-report-broadcast-words-requires
+report-broadcast-words-requires c κs = search needs
+
+same-length-2 : tie.Need-same-length-2
+same-length-2 c = search needs
+
 returns-2 : tie.Need-returns-2
-returns-2 c = ?
+unfolding respond
+returns-2 c =
+    let listed = c .before .before in
+    rw (listed .before .before .before .request .given .1) (listed .report-broadcast-words .ensures)
 
 pub respond-spec : {M : Type 1} → statement M
 respond-spec =
@@ -85,4 +94,6 @@ respond-spec =
     respond-from-requires
     same-length
     returns
+    report-broadcast-words-requires
+    same-length-2
     returns-2)
