@@ -1,0 +1,275 @@
+//! The thirteen cases of document 01's "Shelf W, for checking", and its "Easily got wrong".
+
+use super::*;
+
+/// "Four phys, groups 8, 8, 9, 1; row 8 has bits 1 and 8; row 9 bits 1 and 9; other rows from 2 up
+/// bit 1 alone. The identifier is the bytes 01h, 02h and so on to 08h."
+fn parts() -> ([u32; MOST_PHYS], [u32; GROUPS], [u8; 8]) {
+    let mut groups = [0; MOST_PHYS];
+    groups[..4].copy_from_slice(&[8, 8, 9, 1]);
+    let mut table = [0x2; GROUPS];
+    table[1] = 0xFFFF_FFFF;
+    table[8] = 0x102;
+    table[9] = 0x202;
+    (groups, table, [1, 2, 3, 4, 5, 6, 7, 8])
+}
+
+fn shelf_w() -> Shelf {
+    let (groups, table, identifier) = parts();
+    Shelf::start(4, &groups, &table, &identifier).unwrap()
+}
+
+/// Serves a frame; the response, after looking that the buffer past it is unchanged.
+fn serve(shelf: &mut Shelf, source: u32, frame: &[u8]) -> Result<Vec<u8>, u32> {
+    let before = *shelf;
+    let mut out = [0xA5; ROOM + 7];
+    let told = shelf.serve(source, frame, &mut out);
+    let length = told.unwrap_or(0);
+    assert!(out[length..].iter().all(|&byte| byte == 0xA5));
+    if told.is_err() || length == 4 && out[2] != 0 {
+        assert_eq!(*shelf, before);
+    }
+    told.map(|length| out[..length].to_vec())
+}
+
+/// A 93h request with expected change count 0000h.
+fn configure(phy: u8, clear: u8, descriptors: &[(u8, u32)]) -> Vec<u8> {
+    let d = descriptors.len() as u8;
+    let mut frame = vec![0x40, 0x93, 0, 2 + 2 * d, 0, 0, clear, 0, 0, phy, 0, d];
+    for &(source, threshold) in descriptors {
+        frame.extend([0, 0, 0, source]);
+        frame.extend(threshold.to_be_bytes());
+    }
+    frame
+}
+
+fn control(phy: u8, operation: u8) -> [u8; 40] {
+    let mut frame = [0; 40];
+    (frame[0], frame[1], frame[3], frame[9], frame[10]) = (0x40, 0x91, 0x09, phy, operation);
+    frame
+}
+
+const OK_91: [u8; 4] = [0x41, 0x91, 0x00, 0x00];
+const OK_93: [u8; 4] = [0x41, 0x93, 0x00, 0x00];
+
+#[test]
+fn case_01_reach() {
+    let shelf = shelf_w();
+    assert_eq!(shelf.reach(8), Ok((0x0000_000B, 3)));
+    assert_eq!(shelf.reach(9), Ok((0x0000_000C, 2)));
+    assert_eq!(shelf.reach(0), Ok((0x0000_0008, 1)));
+    assert_eq!(shelf.reach(32), Err(H4));
+}
+
+#[test]
+fn case_02_phy_event_from_8_and_from_9() {
+    let frame = [0x40, 0x14, 0, 2, 0, 0, 0, 0, 0, 2, 0, 0];
+    assert_eq!(serve(&mut shelf_w(), 8, &frame).unwrap(), [0x41, 0x14, 0x16, 0x00]);
+    let mut response = vec![0; 64];
+    response[..6].copy_from_slice(&[0x41, 0x14, 0x00, 0x0F, 0x00, 0x01]);
+    (response[9], response[15]) = (2, 4);
+    assert_eq!(serve(&mut shelf_w(), 9, &frame).unwrap(), response);
+}
+
+#[test]
+fn case_03_phy_event_with_length_00h() {
+    let frame = [0x40, 0x14, 0, 0, 0, 0, 0, 0, 0, 2, 0, 0];
+    assert_eq!(serve(&mut shelf_w(), 9, &frame).unwrap(), [0x41, 0x14, 0x03, 0x00]);
+}
+
+#[test]
+fn case_04_phy_error_log_with_length_00h() {
+    let frame = [0x40, 0x11, 0, 0, 0, 0, 0, 0, 0, 0, 0, 0];
+    let mut response = vec![0; 28];
+    response[..6].copy_from_slice(&[0x41, 0x11, 0x00, 0x06, 0x00, 0x01]);
+    assert_eq!(serve(&mut shelf_w(), 8, &frame).unwrap(), response);
+}
+
+#[test]
+fn case_05_phy_does_not_exist() {
+    let frame = [0x40, 0x11, 0, 2, 0, 0, 0, 0, 0, 4, 0, 0];
+    assert_eq!(serve(&mut shelf_w(), 1, &frame).unwrap(), [0x41, 0x11, 0x10, 0x00]);
+}
+
+#[test]
+fn case_06_unknown_function() {
+    assert_eq!(serve(&mut shelf_w(), 1, &[0x40, 2, 0, 0]).unwrap(), [0x41, 0x02, 0x01, 0x00]);
+    assert_eq!(serve(&mut shelf_w(), 1, &[0x40, 2, 0]), Err(H6));
+}
+
+#[test]
+fn case_07_expected_change_count() {
+    let mut frame = [0x40, 0x93, 0, 2, 0, 2, 1, 0, 0, 0, 0, 0];
+    let mut shelf = shelf_w();
+    assert_eq!(serve(&mut shelf, 8, &frame).unwrap(), [0x41, 0x93, 0x04, 0x00]);
+    frame[5] = 1;
+    assert_eq!(serve(&mut shelf, 8, &frame).unwrap(), OK_93);
+    assert_eq!(shelf, shelf_w());
+}
+
+#[test]
+fn case_08_zone_violation() {
+    let frame = [0x40, 0x93, 0, 2, 0, 0, 1, 0, 0, 2, 0, 0];
+    assert_eq!(serve(&mut shelf_w(), 8, &frame).unwrap(), [0x41, 0x93, 0x20, 0x00]);
+}
+
+#[test]
+fn case_09_reduced_functionality() {
+    let mut shelf = shelf_w();
+    shelf.notice(false);
+    let response = [0x41, 6, 0, 3, 0, 1, 4, 1, 0xFF, 0, 3, 0, 0, 1, 0, 0];
+    assert_eq!(serve(&mut shelf, 1, &[0x40, 6, 4, 0]).unwrap(), response);
+}
+
+#[test]
+fn case_10_change_count_past_its_end() {
+    let mut shelf = shelf_w();
+    shelf.changes = 0xFFFF;
+    assert_eq!(shelf.link_change(0), Ok(()));
+    assert_eq!((shelf.changes, shelf.phys[0].change0), (0x0001, 1));
+}
+
+#[test]
+fn case_11_wrapping_value_and_stopping_error_count() {
+    let mut shelf = shelf_w();
+    serve(&mut shelf, 1, &configure(0, 0, &[(0x01, 0)])).unwrap();
+    shelf.phys[0].monitors[0].value = 0xFFFF_FFFE;
+    shelf.phys[0].errors[0] = 0xFFFF_FFFE;
+    assert_eq!(shelf.event(0, 0x01, 3), Ok(()));
+    assert_eq!(shelf.phys[0].monitors[0].value, 0x0000_0001);
+    assert_eq!(shelf.phys[0].errors, [0xFFFF_FFFF, 0, 0, 0]);
+}
+
+#[test]
+fn case_12_peak_reaches_its_threshold_once() {
+    let mut shelf = shelf_w();
+    assert_eq!(serve(&mut shelf, 1, &configure(0, 0, &[(0x2D, 10)])).unwrap(), OK_93);
+    for (amount, expander1) in [(9, 0), (10, 1), (12, 1)] {
+        assert_eq!(shelf.event(0, 0x2D, amount), Ok(()));
+        assert_eq!((shelf.phys[0].expander1, shelf.phys[0].monitors[0].value), (expander1, amount));
+    }
+}
+
+#[test]
+fn case_13_buffer_length() {
+    let mut out = [0; 1028];
+    assert_eq!(shelf_w().serve(1, &[0x40, 0, 0, 0], &mut out[..1027]), Err(H5));
+    assert_eq!(shelf_w().serve(1, &[0x40, 0, 0, 0], &mut out), Ok(36));
+    assert_eq!(out[..20], [0x41, 0, 0, 8, 0, 1, 0, 0, 0, 4, 0, 0, 1, 2, 3, 4, 5, 6, 7, 8]);
+}
+
+#[test]
+fn wrong_1_one_addition_for_monitors_and_error_counts() {
+    let mut shelf = shelf_w();
+    serve(&mut shelf, 1, &configure(0, 0, &[(0x04, 0), (0x04, 0), (0x03, 0)])).unwrap();
+    for _ in 0..2 {
+        assert_eq!(shelf.event(0, 0x04, 0xFFFF_FFFF), Ok(()));
+    }
+    let values = shelf.phys[0].monitors.map(|monitor| monitor.value);
+    assert_eq!(values, [0xFFFF_FFFE, 0xFFFF_FFFE, 0, 0]);
+    assert_eq!(shelf.phys[0].errors, [0, 0, 0, 0xFFFF_FFFF]);
+}
+
+#[test]
+fn wrong_2_broadcast_count_to_0000h() {
+    let mut shelf = shelf_w();
+    (shelf.ses0, shelf.expander3, shelf.changes) = (0xFFFF, 0xFFFF, 0xFFFF);
+    shelf.phys[1].change0 = 0xFFFF;
+    shelf.notice(true);
+    shelf.notice(false);
+    assert_eq!(serve(&mut shelf, 8, &control(1, 0x01)).unwrap(), OK_91);
+    assert_eq!((shelf.ses0, shelf.expander3, shelf.changes), (1, 1, 1));
+    let response = [0x41, 6, 0, 3, 0, 1, 0, 1, 1, 0, 0, 0, 0, 1, 0, 0];
+    assert_eq!(serve(&mut shelf, 8, &[0x40, 6, 0, 0]).unwrap(), response);
+}
+
+#[test]
+fn wrong_3_sources_before_reach() {
+    let frame = configure(2, 0, &[(0x99, 0)]);
+    assert_eq!(serve(&mut shelf_w(), 8, &frame).unwrap()[2], SMP_ZONE_VIOLATION);
+    assert_eq!(serve(&mut shelf_w(), 9, &frame).unwrap()[2], UNKNOWN_PHY_EVENT_SOURCE);
+    let five = configure(2, 0, &[(0x99, 0); 5]);
+    assert_eq!(serve(&mut shelf_w(), 9, &five).unwrap()[2], SMP_FUNCTION_FAILED);
+}
+
+#[test]
+fn wrong_4_two_good_descriptors_and_a_bad_one() {
+    let mut shelf = shelf_w();
+    let frame = configure(0, 1, &[(0x01, 1), (0x2D, 2), (0x07, 3)]);
+    assert_eq!(serve(&mut shelf, 8, &frame).unwrap(), [0x41, 0x93, 0x17, 0x00]);
+    assert_eq!(shelf, shelf_w());
+}
+
+#[test]
+fn wrong_5_unreached_phys_in_06h() {
+    let mut shelf = shelf_w();
+    for phy in 0..4 {
+        shelf.link_change(phy).unwrap();
+    }
+    let response = serve(&mut shelf, 9, &[0x40, 6, 0, 0]).unwrap();
+    assert_eq!(response[3..8], [5, 0, 5, 0, 2]);
+    assert_eq!((response[8], response[16], response.len()), (2, 3, 24));
+}
+
+#[test]
+fn starts_are_refused_by_the_lowest_number() {
+    let (mut groups, table, identifier) = parts();
+    let mut bad = table;
+    bad[2] |= 1 << 3;
+    assert_eq!(Shelf::start(0, &[32; MOST_PHYS], &bad, &identifier), Err(H1));
+    assert_eq!(Shelf::start(25, &groups, &table, &identifier), Err(H1));
+    groups[4] = 32;
+    assert_eq!(Shelf::start(4, &groups, &table, &identifier), Ok(shelf_w()));
+    assert_eq!(Shelf::start(5, &groups, &bad, &identifier), Err(H2));
+    assert_eq!(Shelf::start(4, &groups, &bad, &identifier), Err(H3));
+}
+
+#[test]
+fn numbers_from_outside_are_not_cut() {
+    let mut shelf = shelf_w();
+    assert_eq!(serve(&mut shelf, 264, &[0x40, 0, 0, 0]), Err(H4));
+    assert_eq!(shelf.event(0, 0x12D, 1), Err(H8));
+    assert_eq!(shelf.event(256, 0x00, 1), Err(H7));
+    assert_eq!(shelf.event(0, 0x2B, 0x100), Err(H9));
+    assert_eq!(shelf.event(0, 0x2C, 0x1_0000), Err(H9));
+    assert_eq!(shelf.link_change(4), Err(H7));
+}
+
+#[test]
+fn a_shelf_that_no_start_made() {
+    let mut shelf = shelf_w();
+    shelf.number = 200;
+    shelf.phys[5].group = 40;
+    assert_eq!(shelf.reach(1), Ok((0x00FF_FFDF, 23)));
+    assert_eq!(serve(&mut shelf, 1, &[0x40, 0, 0, 0]).unwrap()[9], 24);
+    assert_eq!(shelf.link_change(24), Err(H7));
+}
+
+#[test]
+fn clearing_comes_after_setting() {
+    let mut shelf = shelf_w();
+    serve(&mut shelf, 1, &configure(0, 0, &[(0x2D, 10), (0x2E, 5), (0x20, 0)])).unwrap();
+    for source in [0x2D, 0x2E, 0x20] {
+        shelf.event(0, source, 7).unwrap();
+    }
+    assert_eq!(serve(&mut shelf, 8, &configure(0, 1, &[(0x01, 0)])).unwrap(), OK_93);
+    assert_eq!(shelf.phys[0].monitors.map(|monitor| monitor.value), [0, 0, 7, 0]);
+    assert_eq!((shelf.phys[0].expander1, shelf.phys[0].expander2), (1, 1));
+}
+
+#[test]
+fn most_descriptors() {
+    let frame = configure(0, 0, &[(0x01, 0); 126]);
+    assert_eq!(serve(&mut shelf_w(), 1, &frame).unwrap()[2], SMP_FUNCTION_FAILED);
+    let mut frame = frame;
+    (frame[3], frame[11]) = (0, 127);
+    frame.extend([0; 8]);
+    assert_eq!(serve(&mut shelf_w(), 1, &frame).unwrap()[2], INVALID_REQUEST_FRAME_LENGTH);
+    let mut shelf = shelf_w();
+    for phy in &mut shelf.phys {
+        (phy.group, phy.expander1, phy.expander2) = (1, 1, 0xFFFF);
+    }
+    (shelf.number, shelf.expander3) = (24, 1);
+    let response = serve(&mut shelf, 1, &[0x40, 6, 4, 0]).unwrap();
+    assert_eq!((response.len(), response[3], response[7]), (400, 99, 49));
+}

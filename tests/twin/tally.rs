@@ -1,0 +1,234 @@
+//! What occurred in a run, so that a reader sees that nothing is unreached. A run of at least
+//! `ENOUGH` operations in which some kind of answer never occurred has failed.
+
+use crate::operations::Operation;
+use crate::twin::{is_counting, Phy, Shelf};
+
+pub const ENOUGH: u64 = 200_000;
+
+const FUNCTIONS: [u8; 7] = [0x00, 0x01, 0x06, 0x11, 0x14, 0x91, 0x93];
+
+/// The results that each function can give; 00h is acceptance.
+const RESULTS: [&[u8]; 7] = [
+    &[0x00, 0x03],
+    &[0x00, 0x03],
+    &[0x00, 0x03, 0x02],
+    &[0x00, 0x03, 0x10, 0x16],
+    &[0x00, 0x03, 0x10, 0x16],
+    &[0x00, 0x03, 0x04, 0x10, 0x20, 0x13],
+    &[0x00, 0x03, 0x04, 0x10, 0x20, 0x02, 0x17],
+];
+
+macro_rules! marks {
+    ($($mark:ident $name:literal,)*) => {
+        #[derive(Clone, Copy)]
+        enum Mark { $($mark),* }
+        const MARKS: &[&str] = &[$($name),*];
+    };
+}
+
+marks! {
+    Start "starts accepted",
+    Event "event reports accepted",
+    LinkChange "link changes accepted",
+    Reduced "reduced functionality notices",
+    Ses "SES notices",
+    Reach "reach queries answered",
+    H4Serve "H4 to a request",
+    H4Reach "H4 to a reach query",
+    H7Event "H7 to an event report",
+    H7LinkChange "H7 to a link change",
+    Unknown "01h",
+    ListUnderFfh "06h lists with a descriptor under FFh",
+    ListUnderPhys "06h lists with a descriptor under a phy",
+    ListBoth "06h lists with both",
+    Operation00 "91h none",
+    Operation01 "91h link reset",
+    Operation03 "91h disable of an enabled phy",
+    Operation03Again "91h disable of a disabled phy",
+    Operation05 "91h error counts to 0",
+    FourDescriptors "93h with four descriptors accepted",
+    ClearNothing "93h clearing, no peak watched",
+    Expander1 "Expander 1h originations",
+    Expander1More "reports that originate Expander 1h more than once",
+    Expander2 "Expander 2h originations",
+    ChangesRound "change count FFFFh to 0001h",
+    Change0Round "Change FFFFh to 0001h",
+    Expander1Round "Expander 1h FFFFh to 0001h or beyond",
+    Expander2Round "Expander 2h FFFFh to 0001h",
+    Expander3Round "Expander 3h FFFFh to 0001h",
+    SesRound "SES FFFFh to 0001h",
+    Saturated "error counts stopped at FFFFFFFFh",
+    Wrapped "monitors wrapped",
+    NumberAbove24 "operations on a phy number above 24",
+    GroupAbove31 "operations about a phy in a group above 31",
+}
+
+pub struct Tally {
+    refusals: [u64; 10],
+    results: [[u64; 0x21]; 7],
+    marks: [u64; MARKS.len()],
+}
+
+impl Tally {
+    pub fn new() -> Tally {
+        Tally { refusals: [0; 10], results: [[0; 0x21]; 7], marks: [0; MARKS.len()] }
+    }
+
+    fn mark(&mut self, mark: Mark, occurred: bool) {
+        self.marks[mark as usize] += u64::from(occurred);
+    }
+
+    /// Notes one operation: its answer, the shelf before and after, and the response.
+    pub fn note(
+        &mut self,
+        operation: &Operation,
+        told: u32,
+        before: &Shelf,
+        after: &Shelf,
+        out: &[u8],
+    ) {
+        if told >> 31 == 1 {
+            self.refusals[(told & 0xF) as usize] += 1;
+            self.mark(Mark::H4Serve, told & 0xF == 4 && is_request(operation));
+            self.mark(Mark::H4Reach, told & 0xF == 4 && !is_request(operation));
+            self.mark(
+                Mark::H7Event,
+                told & 0xF == 7 && matches!(operation, Operation::Event { .. }),
+            );
+            let link_change = matches!(operation, Operation::LinkChange { .. });
+            self.mark(Mark::H7LinkChange, told & 0xF == 7 && link_change);
+            return;
+        }
+        match operation {
+            Operation::Start(_) => return self.mark(Mark::Start, true),
+            Operation::Serve { frame, .. } => {
+                self.response(frame, &out[..told as usize], before, after)
+            }
+            &Operation::Event { source, amount, phy } => {
+                self.mark(Mark::Event, true);
+                self.event(&before.phys[phy as usize], source as u8, amount);
+            }
+            Operation::LinkChange { .. } => self.mark(Mark::LinkChange, true),
+            Operation::Notice { ses } => {
+                self.mark(if *ses { Mark::Ses } else { Mark::Reduced }, true)
+            }
+            Operation::Reach { .. } => self.mark(Mark::Reach, true),
+        }
+        self.counts(about(operation), before, after);
+    }
+
+    fn response(&mut self, frame: &[u8], out: &[u8], before: &Shelf, after: &Shelf) {
+        let (function, result) = (out[1], out[2]);
+        let Some(row) = FUNCTIONS.iter().position(|&known| known == function) else {
+            return self.mark(Mark::Unknown, result == 0x01);
+        };
+        self.results[row][usize::from(result)] += 1;
+        if result != 0 {
+            return;
+        }
+        match function {
+            0x06 if out[7] != 0 => {
+                let (first, last) = (out[8], out[out.len() - 8]);
+                self.mark(Mark::ListUnderFfh, first == 0xFF);
+                self.mark(Mark::ListUnderPhys, last != 0xFF);
+                self.mark(Mark::ListBoth, first == 0xFF && last != 0xFF);
+            }
+            0x91 => {
+                let was = before.phys[usize::from(frame[9])].enabled;
+                self.mark(Mark::Operation00, frame[10] == 0x00);
+                self.mark(Mark::Operation01, frame[10] == 0x01);
+                self.mark(Mark::Operation03, frame[10] == 0x03 && was);
+                self.mark(Mark::Operation03Again, frame[10] == 0x03 && !was);
+                self.mark(Mark::Operation05, frame[10] == 0x05);
+            }
+            0x93 => {
+                let p = usize::from(frame[9]);
+                let moved = before.phys[p].expander2 != after.phys[p].expander2;
+                self.mark(Mark::FourDescriptors, frame[11] == 4);
+                self.mark(Mark::ClearNothing, frame[6] & 1 == 1 && !moved);
+            }
+            _ => {}
+        }
+    }
+
+    fn event(&mut self, phy: &Phy, source: u8, amount: u32) {
+        if let 0x01..=0x04 = source {
+            let error = phy.errors[usize::from(source - 1)];
+            self.mark(Mark::Saturated, error.checked_add(amount).is_none());
+        }
+        let mut watching = phy.monitors.iter().filter(|monitor| monitor.source == source);
+        let wraps = watching.any(|monitor| monitor.value.checked_add(amount).is_none());
+        self.mark(Mark::Wrapped, is_counting(source) && wraps);
+    }
+
+    /// What the operation did to the counts.
+    fn counts(&mut self, phy: Option<usize>, before: &Shelf, after: &Shelf) {
+        let round = |before: u16, after: u16| before == 0xFFFF && after == 0x0001;
+        self.mark(Mark::NumberAbove24, before.number > 24);
+        self.mark(Mark::ChangesRound, round(before.changes, after.changes));
+        self.mark(Mark::Expander3Round, round(before.expander3, after.expander3));
+        self.mark(Mark::SesRound, round(before.ses0, after.ses0));
+        let Some((was, is)) = phy.and_then(|p| before.phys.get(p).zip(after.phys.get(p))) else {
+            return;
+        };
+        self.mark(Mark::GroupAbove31, was.group > 31);
+        self.mark(Mark::Expander1, was.expander1 != is.expander1);
+        self.mark(Mark::Expander1More, is.expander1 > was.expander1.saturating_add(1));
+        self.mark(Mark::Expander2, was.expander2 != is.expander2);
+        self.mark(Mark::Change0Round, round(was.change0, is.change0));
+        self.mark(Mark::Expander1Round, was.expander1 > is.expander1);
+        self.mark(Mark::Expander2Round, round(was.expander2, is.expander2));
+    }
+
+    /// The counts, one line for each function and one for each group of other kinds.
+    pub fn lines(&self) -> Vec<String> {
+        let mut lines = Vec::new();
+        for (row, results) in RESULTS.iter().enumerate() {
+            let counts = results.iter().map(|&result| {
+                let count = self.results[row][usize::from(result)];
+                if result == 0 {
+                    format!("accepted {count}")
+                } else {
+                    format!("{result:02X}h {count}")
+                }
+            });
+            let counts: Vec<String> = counts.collect();
+            lines.push(format!("{:02X}h: {}", FUNCTIONS[row], counts.join(", ")));
+        }
+        let refusals: Vec<String> = (1..=9).map(|h| format!("H{h} {}", self.refusals[h])).collect();
+        lines.push(refusals.join(", "));
+        let marks = MARKS.iter().zip(self.marks).map(|(name, count)| format!("{name} {count}"));
+        let marks: Vec<String> = marks.collect();
+        lines.extend(marks.chunks(4).map(|some| some.join(", ")));
+        lines
+    }
+
+    /// The kinds that never occurred.
+    pub fn missing(&self) -> Vec<String> {
+        let mut missing = Vec::new();
+        for (row, results) in RESULTS.iter().enumerate() {
+            let none =
+                results.iter().filter(|&&result| self.results[row][usize::from(result)] == 0);
+            missing
+                .extend(none.map(|result| format!("{:02X}h with {result:02X}h", FUNCTIONS[row])));
+        }
+        missing.extend((1..=9).filter(|&h| self.refusals[h] == 0).map(|h| format!("H{h}")));
+        let marks = MARKS.iter().zip(self.marks);
+        missing.extend(marks.filter(|(_, count)| *count == 0).map(|(name, _)| name.to_string()));
+        missing
+    }
+}
+
+fn is_request(operation: &Operation) -> bool {
+    matches!(operation, Operation::Serve { .. })
+}
+
+/// The phy that an operation is about.
+fn about(operation: &Operation) -> Option<usize> {
+    match operation {
+        Operation::Serve { frame, .. } => frame.get(9).map(|&phy| usize::from(phy)),
+        Operation::Event { phy, .. } | Operation::LinkChange { phy } => Some(*phy as usize),
+        _ => None,
+    }
+}
