@@ -1,2 +1,3 @@
--- What C is told.
+-- What C is told, and what a request that was read comes to.
 pub mod Told
+pub mod Asked

@@ -9,9 +9,7 @@ mod request;
 mod told;
 
 use crate::reach::reach_set;
-use crate::request::decide;
-use crate::request::effect;
-use crate::request::respond;
+use crate::request::serve_asked;
 use crate::request::turned_away;
 use crate::told::refused_told;
 use crate::told::taken_told;
@@ -20,12 +18,10 @@ use counters::phy::change_on;
 use counters::phy::event_on;
 use gate::bytes::byte_at;
 use gate::frame::judge;
-use model::FunctionResult;
 use model::House;
 use model::Judged;
 use model::Taken;
 use reports::event_taken;
-use responses::send_result;
 use shelf::phys::exists;
 use shelf::start::start;
 use words::read::low16;
@@ -88,13 +84,7 @@ pub extern "C" fn smp_serve(
     let Judged::Asked(request) = judged else {
         return turned_away(judged, function, out);
     };
-    let result = decide(shelf, source, frame, request);
-    let FunctionResult::Accepted = result else {
-        return send_result(function, result, out) as u32;
-    };
-    let size = respond(shelf, source, request, out);
-    effect(shelf, frame, request);
-    size as u32
+    serve_asked(shelf, source, frame, request, function, out)
 }
 
 // An event report: the phy that it names counts it, or it is refused, and the shelf is as it was.

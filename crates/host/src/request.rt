@@ -26,12 +26,13 @@ ghost use Prim.Native.Nat.{_≤_};
 ghost use lib.ListN.{length};
 ghost use Rattle.model.specs.Reply.{respond};
 ghost use Rattle.model.specs.Results.{decide};
-ghost use Rattle.model.specs.Server.{answer, lent};
+ghost use Rattle.model.specs.Server.{answer, lent, over};
 ghost use Rattle.model.specs.Writes.{control, configure, effect};
 ghost use Rattle.replies.specs.Sent.{Sent};
 ghost use Rattle.server.specs.Serving.{judgedReply};
 ghost use Rattle.words.specs.Words.{shelfOf, laidOver};
 ghost use Rattle.host.specs.Told.{answerTold};
+ghost use Rattle.host.specs.Asked.{answered, keptWords};
 
 // What is told where no request could be read from the frame: H6, or the length of a failed response, 01h or 03h.
 pub(crate) fn turned_away(judged: Judged, function: u8, out: &mut [u8]) -> u32
@@ -48,12 +49,7 @@ pub(crate) fn turned_away(judged: Judged, function: u8, out: &mut [u8]) -> u32
 }
 
 // What the request comes to, from source group `source`.
-pub(crate) fn decide(
-    words: &[u32; 548],
-    source: u32,
-    frame: &[u8],
-    request: Request,
-) -> FunctionResult
+fn decide(words: &[u32; 548], source: u32, frame: &[u8], request: Request) -> FunctionResult
     ensures { λ r. ⌜ r ≡ decide (shelfOf (now (words .entry))) source (now (frame .entry)) request ⌝ }
 {
     let phy = phy_of(request) as u32;
@@ -64,7 +60,7 @@ pub(crate) fn decide(
 }
 
 // The accepted response, in the lent buffer. Gives its length.
-pub(crate) fn respond(words: &[u32; 548], source: u32, request: Request, out: &mut [u8]) -> usize
+fn respond(words: &[u32; 548], source: u32, request: Request, out: &mut [u8]) -> usize
     ensures { λ r. ⌜ Sent (now (out .entry)) (respond (shelfOf (now (words .entry))) source request) r (now (out .exit)) ⌝ }
 {
     let Request::ReportBroadcast { kind } = request else {
@@ -111,7 +107,7 @@ fn configure(words: &mut [u32; 548], frame: &[u8], clear: bool, phy: u8, d: u8)
 }
 
 // What an accepted request does to the shelf. Reads change nothing.
-pub(crate) fn effect(words: &mut [u32; 548], frame: &[u8], request: Request)
+fn effect(words: &mut [u32; 548], frame: &[u8], request: Request)
     ensures { λ _. ⌜ now (words .exit) ≡ laidOver (now (words .entry)) (effect (shelfOf (now (words .entry))) (now (frame .entry)) request) ⌝ }
 {
     let all: &[u32] = words;
@@ -132,5 +128,123 @@ pub(crate) fn effect(words: &mut [u32; 548], frame: &[u8], request: Request)
             phy,
             number,
         } => configure(words, frame, clear, phy, number),
+    }
+}
+
+// A request that was read: its response and its effect where it is accepted, and otherwise the four bytes of its result and
+// no effect at all. Gives the length of the response.
+fn conclude(
+    words: &mut [u32; 548],
+    source: u32,
+    frame: &[u8],
+    request: Request,
+    function: u8,
+    out: &mut [u8],
+) -> u32
+    requires { ⌜ 1028 ≤ length (now out) ⌝ }
+    ensures told { λ r. ⌜ r ≡ length (answered (now (words .entry)) source (now (frame .entry)) request function) ⌝ }
+    ensures kept { λ _. ⌜ now (words .exit) ≡ keptWords (now (words .entry)) source (now (frame .entry)) request ⌝ }
+    ensures left { λ _. ⌜ now (out .exit) ≡ over (now (out .entry)) (answered (now (words .entry)) source (now (frame .entry)) request function) ⌝ }
+{
+    let all: &[u32] = words;
+    let result = decide(words, source, frame, request);
+    let FunctionResult::Accepted = result else {
+        return send_result(function, result, out) as u32;
+    };
+    let size = respond(words, source, request, out);
+    effect(words, frame, request);
+    size as u32
+}
+
+// The same, with an arm for each request. In its arm the request is known, and so the compiler makes code that takes out of the
+// words what this request needs, and nothing else.
+pub(crate) fn serve_asked(
+    words: &mut [u32; 548],
+    source: u32,
+    frame: &[u8],
+    request: Request,
+    function: u8,
+    out: &mut [u8],
+) -> u32
+    requires { ⌜ 1028 ≤ length (now out) ⌝ }
+    ensures told { λ r. ⌜ r ≡ length (answered (now (words .entry)) source (now (frame .entry)) request function) ⌝ }
+    ensures kept { λ _. ⌜ now (words .exit) ≡ keptWords (now (words .entry)) source (now (frame .entry)) request ⌝ }
+    ensures left { λ _. ⌜ now (out .exit) ≡ over (now (out .entry)) (answered (now (words .entry)) source (now (frame .entry)) request function) ⌝ }
+{
+    match request {
+        Request::ReportGeneral => conclude(
+            words,
+            source,
+            frame,
+            Request::ReportGeneral,
+            function,
+            out,
+        ),
+        Request::ReportManufacturer => conclude(
+            words,
+            source,
+            frame,
+            Request::ReportManufacturer,
+            function,
+            out,
+        ),
+        Request::ReportBroadcast { kind } => conclude(
+            words,
+            source,
+            frame,
+            Request::ReportBroadcast { kind },
+            function,
+            out,
+        ),
+        Request::ReportPhyErrorLog { phy } => conclude(
+            words,
+            source,
+            frame,
+            Request::ReportPhyErrorLog { phy },
+            function,
+            out,
+        ),
+        Request::ReportPhyEvent { phy } => conclude(
+            words,
+            source,
+            frame,
+            Request::ReportPhyEvent { phy },
+            function,
+            out,
+        ),
+        Request::PhyControl {
+            expected,
+            phy,
+            operation,
+        } => conclude(
+            words,
+            source,
+            frame,
+            Request::PhyControl {
+                expected,
+                phy,
+                operation,
+            },
+            function,
+            out,
+        ),
+        Request::ConfigurePhyEvent {
+            expected,
+            clear,
+            phy,
+            number,
+        } => conclude(
+            words,
+            source,
+            frame,
+            Request::ConfigurePhyEvent {
+                expected,
+                clear,
+                phy,
+                number,
+            },
+            function,
+            out,
+        ),
     }
 }
