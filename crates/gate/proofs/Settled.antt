@@ -5,7 +5,6 @@ use Rattle.model.proofs.Laws.Settling.{value-settles}
 use Rattle.gate.proofs.bytes.byte_at
 use Rattle.gate.proofs.bytes.word_of
 use Rattle.gate.proofs.frame.judge
-use Rattle.gate.proofs.frame.phy_of
 use Rattle.gate.proofs.frame.smp_judge_frame
 use Rattle.gate.proofs.numbers.house_number
 use Rattle.gate.proofs.numbers.result_code
@@ -19,9 +18,6 @@ word-of-settled = value-settles _ _ _ (λ κs a x y. refl)
 
 pub judge-settled : Settled judge.Kinds.ps judge.Kinds.r judge.Reads.Pre judge.Reads.Post
 judge-settled = value-settles _ _ _ (λ κs a x y. refl)
-
-pub phy-of-settled : Settled phy_of.Kinds.ps phy_of.Kinds.r phy_of.Reads.Pre phy_of.Reads.Post
-phy-of-settled = value-settles _ _ _ (λ κs a x y. refl)
 
 pub smp-judge-frame-settled : Settled smp_judge_frame.Kinds.ps smp_judge_frame.Kinds.r smp_judge_frame.Reads.Pre smp_judge_frame.Reads.Post
 smp-judge-frame-settled = value-settles _ _ _ (λ κs a x y. refl)

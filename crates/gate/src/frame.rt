@@ -8,7 +8,7 @@ use model::House;
 use model::Judged;
 use model::Request;
 ghost use mathlib.Core.Path.{_≡_};
-ghost use Rattle.model.specs.Request.{badFrame, known, lengthRight, asked, judge, phyOf};
+ghost use Rattle.model.specs.Request.{badFrame, known, lengthRight, asked, judge};
 ghost use Rattle.gate.specs.FrameNumber.{housePart, resultPart, frameNumber};
 
 // H6: "request under 4 bytes, or first byte not 40h"
@@ -97,31 +97,6 @@ pub fn judge(frame: &[u8]) -> Judged
         return Judged::Fails(FunctionResult::InvalidRequestFrameLength);
     }
     Judged::Asked(asked(frame))
-}
-
-// The phy of a function that has one; a request without a phy has 0, and its result
-// does not depend on it.
-pub fn phy_of(request: Request) -> u8
-    ensures { λ r. ⌜ r ≡ phyOf request ⌝ }
-{
-    match request {
-        Request::ReportGeneral => 0,
-        Request::ReportManufacturer => 0,
-        Request::ReportBroadcast { kind: _ } => 0,
-        Request::ReportPhyErrorLog { phy } => phy,
-        Request::ReportPhyEvent { phy } => phy,
-        Request::PhyControl {
-            expected: _,
-            phy,
-            operation: _,
-        } => phy,
-        Request::ConfigurePhyEvent {
-            expected: _,
-            clear: _,
-            phy,
-            number: _,
-        } => phy,
-    }
 }
 
 // The code of a judgement's failed result, or 00h where there is none.

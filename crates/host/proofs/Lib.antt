@@ -1,3 +1,4 @@
--- The numbers that are read straight out of the words, and what a request comes to on them.
+-- The numbers that are read straight out of the words, how a request is answered, and what it comes to as a whole.
 pub mod Numbers
+pub mod Answering
 pub mod Serving

@@ -1,5 +1,6 @@
 -- What `smp_serve` promises, from what `serve` promises of the shelf that the words stand for. Assumes nothing.
 use Prim.Native.Nat.{ℕ, _≤_}
+use native.Mathlib.Omega.{arith}
 use mathlib.Core.Path.{_≡_, ap, _∙_}
 use mathlib.Core.List.{List}
 use lib.ListN.{length}
@@ -9,6 +10,10 @@ use Rattle.model.specs.declared.Request.{Request}
 use Rattle.model.specs.declared.Served.{Served}
 use Rattle.model.specs.declared.Shelf.{Shelf}
 use Rattle.model.specs.Server.{served, lentAfter}
+use Rattle.model.specs.Results.{accepted}
+use Rattle.model.proofs.Demands.Frames.{respond-framed}
+use Rattle.model.proofs.Laws.Tests.{cond-both}
+use Rattle.server.specs.Serving.{drawn}
 use Rattle.server.proofs.Handling.{Serves}
 use Rattle.words.specs.Words.{shelfOf, laidOver}
 use Rattle.host.specs.Told.{answerTold}
@@ -27,3 +32,9 @@ module _ (ws : List ℕ) (g : ℕ) (frame out : List ℕ) where
     told ∙ ap (λ (t : Served). answerTold (t .answer)) (serves .0),
     (kept ∙ ap (λ (t : Served). laidOver ws (t .shelf)) (serves .0), stays ∙ serves .1),
   )
+
+-- a response fits 32 bits by far
+pub drawn-small : (s : Shelf) (g : ℕ) (request : Request) (function : ℕ) (result : FunctionResult)
+    → length (drawn s g request function result) ≤ 400
+drawn-small s g request function result =
+    cond-both (λ bytes. length bytes ≤ 400) (accepted result) _ _ (respond-framed s g request .longest) (omega arith)

@@ -1,3 +1,3 @@
--- What C is told, and what a request that was read comes to.
+-- What C is told, and what answering a request leaves in the lent buffer and in the words.
 pub mod Told
-pub mod Asked
+pub mod Answers

@@ -4,9 +4,12 @@
 // decide and count on them by value, and puts back at most one phy's record and the counts. C's side of the interface
 // is firmware/kinubarsil.h; what C is told is one number, by one coding (specs/Told.antt). Each promise says all of
 // what the call comes to: the number, the words afterwards, and the lent buffer afterwards.
+mod pieces;
 mod reach;
+mod reads;
 mod request;
 mod told;
+mod writing;
 
 use crate::reach::reach_set;
 use crate::request::serve_asked;
@@ -84,7 +87,7 @@ pub extern "C" fn smp_serve(
     let Judged::Asked(request) = judged else {
         return turned_away(judged, function, out);
     };
-    serve_asked(shelf, source, frame, request, function, out)
+    serve_asked(shelf, source, frame, request, function, out) as u32
 }
 
 // An event report: the phy that it names counts it, or it is refused, and the shelf is as it was.

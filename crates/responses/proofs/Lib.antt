@@ -1,3 +1,2 @@
--- The response from pieces is the one on the whole shelf, and each public promise settles its outcome.
-pub mod FromPieces
+-- Each public promise settles its outcome.
 pub mod Settled

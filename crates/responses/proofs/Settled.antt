@@ -2,7 +2,6 @@
 use mathlib.Core.Path.{sym, ap, _∙_}
 use Rattle.model.specs.Settled.{Settled}
 use Rattle.responses.proofs.send_result
-use Rattle.responses.proofs.respond_from
 use Rattle.responses.proofs.respond
 
 pub send-result-settled : Settled send_result.Kinds.ps send_result.Kinds.r send_result.Reads.Pre send_result.Reads.Post
@@ -10,13 +9,6 @@ send-result-settled = record {
   asks-nothing = λ κs a. tt;
   same-result = λ κs a x y. x .promised .0 ∙ sym (y .promised .0);
   same-lent = λ κs a x y. ap (λ out. (tt, (tt, (out, tt)))) (x .promised .1 ∙ sym (y .promised .1));
-}
-
-pub respond-from-settled : Settled respond_from.Kinds.ps respond_from.Kinds.r respond_from.Reads.Pre respond_from.Reads.Post
-respond-from-settled = record {
-  asks-nothing = λ κs a. tt;
-  same-result = λ κs a x y. x .promised .0 ∙ sym (y .promised .0);
-  same-lent = λ κs a x y. ap (λ out. (tt, (tt, (tt, (tt, (tt, (out, tt))))))) (x .promised .1 ∙ sym (y .promised .1));
 }
 
 pub respond-settled : Settled respond.Kinds.ps respond.Kinds.r respond.Reads.Pre respond.Reads.Post

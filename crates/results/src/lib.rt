@@ -30,7 +30,7 @@ fn check_phy(there: bool, reached: bool, unreached: FunctionResult) -> FunctionR
 }
 
 // "16h PHY VACANT for 11h and 14h"
-fn check_read(there: bool, reached: bool) -> FunctionResult
+pub fn check_read(there: bool, reached: bool) -> FunctionResult
     ensures { λ r. ⌜ r ≡ checkRead there reached ⌝ }
 {
     check_phy(there, reached, FunctionResult::PhyVacant)
@@ -47,7 +47,7 @@ fn check_write(changes: u16, expected: u16, there: bool, reached: bool) -> Funct
 }
 
 // "02h SMP FUNCTION FAILED for a broadcast type above 0Fh (06h)"
-fn check_kind(kind: u8) -> FunctionResult
+pub fn check_kind(kind: u8) -> FunctionResult
     ensures { λ r. ⌜ r ≡ checkKind kind ⌝ }
 {
     if 0x0F < kind {
@@ -88,7 +88,7 @@ fn check_descriptors(frame: &[u8], d: u8) -> FunctionResult
 }
 
 // A 91h. Its contents are judged only where all before has passed.
-fn check_control(
+pub fn check_control(
     changes: u16,
     expected: u16,
     there: bool,
@@ -105,7 +105,7 @@ fn check_control(
 }
 
 // A 93h with d descriptors. They are judged only where all before has passed.
-fn check_configure(
+pub fn check_configure(
     changes: u16,
     expected: u16,
     there: bool,

@@ -3,11 +3,11 @@
 use borrow.Author.Needs.{needs}
 use native.Mathlib.Omega.{arith}
 use mathlib.Core.Path.{refl, sym, subst, _∙_}
+use Rattle.model.specs.Results.{decide}
 use Rattle.server.proofs.Handling.{NotAsked, serves-H4, serves-H5, serves-judged, serves-asked}
 use Rattle.words.specs.Words.{shelfOf}
 use Rattle.words.proofs.Laying.{laid-same}
-use Rattle.host.specs.Asked.{answered, keptWords}
-use Rattle.host.proofs.Serving.{tells}
+use Rattle.host.proofs.Serving.{tells, drawn-small}
 use Rattle.host.proofs.smp_serve.Statement.{statement}
 use Rattle.host.proofs.smp_serve.Tie as tie
 
@@ -64,11 +64,24 @@ returns-3 c =
 serve-asked-requires : tie.Need-serve-asked-requires
 serve-asked-requires c κs = search needs
 
+cast-result : tie.Need-cast-result
+cast-result c =
+    let served = c .before .before in
+    let asked = served .before .before .before .before in
+    let a = asked .before .before .before .before .before .before .before .before .before .before .args in
+    let s = shelfOf (a .shelf .now) in
+    let request = asked .judged .given .0 .0 in
+    let function = asked .before .before .before .byte-at .result in
+    omega (
+      arith,
+      served .serve-asked .ensures .0 .0,
+      drawn-small s (a .source) request function (decide s (a .source) (a .frame .now) request),
+    )
+
 same-length-2 : tie.Need-same-length-2
 same-length-2 c = search needs
 
 returns-4 : tie.Need-returns-4
-unfolding answered keptWords
 returns-4 c =
     let served = c .before .before in
     let asked = served .before .before .before .before in
@@ -80,7 +93,7 @@ returns-4 c =
     tells ws (a .source) (a .frame .now) (a .out .now) _ _
     (serves-asked (shelfOf ws) (a .source) (a .frame .now) (a .out .now) (omega arith) (omega arith)
     (asked .judged .given .0 .0) asks)
-    (all .0) (all .1 .0) (all .1 .1)
+    (all .0 .0) (all .1) (all .0 .1)
 
 pub smp-serve-spec : {M : Type 1} → statement M
 smp-serve-spec =
@@ -97,5 +110,6 @@ smp-serve-spec =
     same-length
     returns-3
     serve-asked-requires
+    cast-result
     same-length-2
     returns-4)

@@ -1,4 +1,4 @@
--- `host::request::control` meets its contract: the phy is put back as the operation leaves it, and the change count moves where it
+-- `host::writing::control` meets its contract: the phy is put back as the operation leaves it, and the change count moves where it
 -- originates Change. Assumes nothing.
 use borrow.Author.Needs.{needs}
 use mathlib.Core.Path.{_≡_, sym, _∙_}
@@ -8,8 +8,8 @@ use Rattle.model.specs.Shelf.{phyAt}
 use Rattle.model.specs.Writes.{controlChanges}
 use Rattle.words.specs.Words.{shelfOf}
 use Rattle.host.proofs.Numbers.{changes-read}
-use Rattle.host.proofs.request.control.Statement.{statement}
-use Rattle.host.proofs.request.control.Tie as tie
+use Rattle.host.proofs.writing.control.Statement.{statement}
+use Rattle.host.proofs.writing.control.Tie as tie
 
 phy-at-requires : tie.Need-phy-at-requires
 phy-at-requires c κs = search needs

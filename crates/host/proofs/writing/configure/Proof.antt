@@ -1,8 +1,8 @@
--- `host::request::configure` meets its contract: the phy is put back as the descriptors and the clear leave it. Assumes nothing.
+-- `host::writing::configure` meets its contract: the phy is put back as the descriptors and the clear leave it. Assumes nothing.
 use borrow.Author.Needs.{needs}
 use Rattle.host.proofs.Numbers.{changes-read}
-use Rattle.host.proofs.request.configure.Statement.{statement}
-use Rattle.host.proofs.request.configure.Tie as tie
+use Rattle.host.proofs.writing.configure.Statement.{statement}
+use Rattle.host.proofs.writing.configure.Tie as tie
 
 phy-at-requires : tie.Need-phy-at-requires
 phy-at-requires c κs = search needs

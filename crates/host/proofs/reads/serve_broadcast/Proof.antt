@@ -1,0 +1,58 @@
+-- `host::reads::serve_broadcast` meets its contract: a failed result, or the list. Assumes nothing.
+use borrow.Author.Needs.{needs}
+use native.Mathlib.Omega.{arith}
+use Rattle.model.specs.Reply.{respond}
+use Rattle.results.proofs.Passing.{not-accepted}
+use Rattle.host.proofs.Answering.{sent-all}
+use Rattle.host.proofs.reads.serve_broadcast.Statement.{statement}
+use Rattle.host.proofs.reads.serve_broadcast.Tie as tie
+
+check-kind-requires : tie.Need-check-kind-requires
+check-kind-requires c κs = search needs
+
+enum-told : tie.Need-enum-told
+enum-told c = search needs
+
+send-result-requires : tie.Need-send-result-requires
+send-result-requires c κs = search needs
+
+same-length : tie.Need-same-length
+same-length c = search needs
+
+returns : tie.Need-returns
+returns c =
+    let sent = c .before .before in
+    let failed = sent .before .before in
+    let checked = failed .before in
+    let a = checked .before .before .args in
+    rw (← checked .check-kind .ensures, not-accepted (checked .check-kind .result) (failed .match .keys2))
+    (sent-all (a .out .now) _ (omega arith) (sent .send-result .ensures))
+
+report-broadcast-words-requires : tie.Need-report-broadcast-words-requires
+report-broadcast-words-requires c κs = search needs
+
+same-length-2 : tie.Need-same-length-2
+same-length-2 c = search needs
+
+returns-2 : tie.Need-returns-2
+unfolding respond
+returns-2 c =
+    let listed = c .before .before in
+    let granted = listed .before .before in
+    let checked = granted .before .before in
+    let a = checked .before .before .args in
+    rw (← checked .check-kind .ensures, granted .enum-told .given .1)
+    (sent-all (a .out .now) _ (omega arith) (listed .report-broadcast-words .ensures))
+
+pub serve-broadcast-spec : {M : Type 1} → statement M
+serve-broadcast-spec =
+    tie.close
+    (tie.spec
+    check-kind-requires
+    enum-told
+    send-result-requires
+    same-length
+    returns
+    report-broadcast-words-requires
+    same-length-2
+    returns-2)

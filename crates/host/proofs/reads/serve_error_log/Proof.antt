@@ -1,0 +1,99 @@
+-- `host::reads::serve_error_log` meets its contract: a failed result, or the response from the phy's record. Assumes nothing.
+use borrow.Author.Needs.{needs}
+use native.Mathlib.Omega.{arith}
+use mathlib.Core.Path.{_≡_}
+use Rattle.model.specs.Reply.{respond}
+use Rattle.results.proofs.Passing.{not-accepted}
+use Rattle.host.specs.Answers.{readResult}
+use Rattle.host.proofs.Answering.{copied, sent-all}
+use Rattle.host.proofs.Numbers.{changes-read}
+use Rattle.host.proofs.reads.serve_error_log.Statement.{statement}
+use Rattle.host.proofs.reads.serve_error_log.Tie as tie
+
+there-requires : tie.Need-there-requires
+there-requires c κs = search needs
+
+reached-requires : tie.Need-reached-requires
+reached-requires c κs = search needs
+
+check-read-requires : tie.Need-check-read-requires
+check-read-requires c κs = search needs
+
+enum-told : tie.Need-enum-told
+enum-told c = search needs
+
+send-result-requires : tie.Need-send-result-requires
+send-result-requires c κs = search needs
+
+same-length : tie.Need-same-length
+same-length c = search needs
+
+-- the result is the definition's, on this shelf
+result-is : (c : tie.After-check-read)
+    → let a = c .before .before .before .before .args in
+    c .check-read .result ≡ readResult (a .words .now) (a .source) (a .phy)
+result-is c = rw (c .before .reached .ensures, c .before .before .there .ensures) at (c .check-read .ensures)
+
+returns : tie.Need-returns
+returns c =
+    let sent = c .before .before in
+    let failed = sent .before .before in
+    let checked = failed .before in
+    let a = checked .before .before .before .before .args in
+    rw (← result-is checked, not-accepted (checked .check-read .result) (failed .match .keys2))
+    (sent-all (a .out .now) _ (omega arith) (sent .send-result .ensures))
+
+element-copy-out-low16 : tie.Need-element-copy-out-low16
+element-copy-out-low16 c = search needs
+
+low16-requires : tie.Need-low16-requires
+low16-requires c κs = search needs
+
+phy-at-requires : tie.Need-phy-at-requires
+phy-at-requires c κs = search needs
+
+report-phy-error-log-requires : tie.Need-report-phy-error-log-requires
+report-phy-error-log-requires c κs = search needs
+
+slice-aggregate-copy : tie.Need-slice-aggregate-copy
+slice-aggregate-copy c = search needs
+
+copy-requires : tie.Need-copy-requires
+copy-requires c κs = search needs
+
+same-length-2 : tie.Need-same-length-2
+same-length-2 c = search needs
+
+returns-2 : tie.Need-returns-2
+unfolding respond
+returns-2 c =
+    let sent = c .before .before in
+    let made = sent .before .before .before in
+    let read = made .before in
+    let counted = read .before in
+    let granted = counted .before .before in
+    let checked = granted .before .before in
+    let a = checked .before .before .before .before .args in
+    rw (← result-is checked, granted .enum-told .given .1)
+    (copied (a .out .now) (sent .copy .ensures .0) (sent .copy .ensures .1)
+    (rw (read .phy-at .ensures, counted .low16 .ensures, changes-read (a .words .now)) at (made .report-phy-error-log .ensures)))
+
+pub serve-error-log-spec : {M : Type 1} → statement M
+serve-error-log-spec =
+    tie.close
+    (tie.spec
+    there-requires
+    reached-requires
+    check-read-requires
+    enum-told
+    send-result-requires
+    same-length
+    returns
+    element-copy-out-low16
+    low16-requires
+    phy-at-requires
+    report-phy-error-log-requires
+    slice-aggregate-copy
+    copy-requires
+    same-length-2
+    returns-2)

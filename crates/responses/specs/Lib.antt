@@ -1,2 +1,0 @@
--- The response from pieces of the shelf.
-pub mod Pieces
