@@ -57,10 +57,13 @@ fn originate_crossing(source: u32, amount: u32, before: Monitor, count: u16) -> 
     }
 }
 
-// .. and after all four
+// .. and after all four. A report on a counting source changes no peak, and so takes none anywhere.
 fn originate_crossings(source: u32, amount: u32, monitors: [Monitor; 4], count: u16) -> u16
     ensures { λ r. ⌜ r ≡ originateCrossings source amount monitors count ⌝ }
 {
+    if !peak(source) {
+        return count;
+    }
     let after0 = originate_crossing(source, amount, monitors[0], count);
     let after1 = originate_crossing(source, amount, monitors[1], after0);
     let after2 = originate_crossing(source, amount, monitors[2], after1);

@@ -126,12 +126,19 @@ fn clear_on(before: Phy) -> Phy
     after
 }
 
-// The phy after a 93h with d descriptors, ".. if clearing" or not.
+// ".. if clearing", or the phy as it is
+fn clear_if(clear: bool, before: Phy) -> Phy
+    ensures { λ r. ⌜ r ≡ cond clear (clearOn before) before ⌝ }
+{
+    if clear {
+        return clear_on(before);
+    }
+    before
+}
+
+// The phy after a 93h with d descriptors: set, and then cleared if clearing.
 pub fn configured(frame: &[u8], d: u8, clear: bool, before: Phy) -> Phy
     ensures { λ r. ⌜ r ≡ configured (now (frame .entry)) d clear before ⌝ }
 {
-    if clear {
-        return clear_on(set_on(frame, d, before));
-    }
-    set_on(frame, d, before)
+    clear_if(clear, set_on(frame, d, before))
 }
