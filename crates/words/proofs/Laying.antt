@@ -10,7 +10,7 @@ use lib.ListN.{length, set, take, drop, take-append-drop, length-append}
 use lib.Seq.{sets, sets-eq, drop-cons, drop-drop, take-add, set-out}
 use Rattle.model.specs.declared.Phy.{Phy}
 use Rattle.model.specs.Shelf.{put, putDevice}
-use Rattle.model.proofs.Laws.Places.{sets-append}
+use Rattle.model.proofs.Laws.Places.{sets-before, sets-append}
 use Rattle.words.specs.Words.{wordAt, lowSet, monitorsOver, headOver, countsOver, phyOf, phyOver, physOf, physOver, shelfOf, laidOver}
 use Rattle.words.proofs.Reading.{phys-size}
 
@@ -74,7 +74,8 @@ module _ (ws : List ℕ) where
   unfolding physOf physOver
   phys-same zero at h = refl
   phys-same (suc n) at h =
-      rw (block-same at (omega arith), phys-same n (at + 21) (omega arith), ← drop-drop 21 at ws, take-append-drop 21 (drop at ws))
+      ap (λ behind. phyOver ws at (phyOf ws at) ++ behind) (phys-same n (at + 21) (omega arith))
+      ∙ rw (block-same at (omega arith), ← drop-drop 21 at ws, take-append-drop 21 (drop at ws))
 
   pub block-size : (at : ℕ) (x : Phy) → length (phyOver ws at x) ≡ 21
   unfolding phyOver
@@ -111,6 +112,14 @@ module _ (ws : List ℕ) where
     unfolding laidOver shelfOf
     laid-put p x changes below =
         rw (← phys-set 24 p 44 x below (omega arith), front, append-assoc) (simp (low8-same, low16-same) refl)
+
+    -- .. as it is stored: first the phy, then the count in word 1, which no phy's words touch
+    pub put-stored : (p : ℕ) (x : Phy) (changes : ℕ) → p < 24 → {stored : List ℕ} {n : ℕ}
+        → stored ≡ sets ws (44 + 21 * p) (phyOver ws (44 + 21 * p) x) → n ≡ lowSet 0x10000 (wordAt stored 1) changes
+        → set stored 1 n ≡ laidOver ws (put (shelfOf ws) p x changes)
+    put-stored p x changes below e is-n =
+        let at : ℕ = 44 + 21 * p in
+        rw (is-n, e, sets-before (phyOver ws at x) ws at 1 0 (omega arith), laid-put p x changes below)
 
     -- all words, the twelve device wide ones one by one
     whole : ws ≡ run 12 0 0 ++ take 32 (drop 12 ws) ++ drop 44 ws

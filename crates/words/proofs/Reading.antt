@@ -14,7 +14,7 @@ module _ (ws : List ℕ) where
   pub phys-size : (n at : ℕ) → length (physOf n ws at) ≡ n
   unfolding physOf
   phys-size zero at = refl
-  phys-size (suc n) at = ap suc (phys-size n (at + 21))
+  phys-size (suc n) at = ap suc (phys-size n _)
 
   -- phy p stands 21 words behind the one before it
   pub phys-at : (n p at : ℕ) (d : Phy) → p < n → getD (physOf n ws at) p d ≡ phyOf ws (at + 21 * p)

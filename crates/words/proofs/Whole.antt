@@ -2,9 +2,9 @@
 use Prim.Native.Nat.{ℕ, zero, suc, _+_, _*_, _≤_, _<_}
 use native.Mathlib.Nat.{zero-add, add-assoc}
 use native.Mathlib.Omega.{arith}
-use mathlib.Core.Path.{_≡_, refl, sym, _∙_}
+use mathlib.Core.Path.{_≡_, refl, sym, ap, _∙_}
 use mathlib.Core.List.{List, [], _∷_, _++_, map, append-assoc, append-nil}
-use lib.ListN.{length, getD, take, drop, replicate, take-append-drop, length-append, length-drop, drop-of-length-le}
+use lib.ListN.{length, getD, take, drop, set, replicate, take-append-drop, length-append, length-drop, drop-of-length-le}
 use lib.Seq.{sets, sets-eq, drop-drop, take-at, drop-at, getD-drop, length-take-le}
 use Rattle.model.specs.declared.Phy.{Phy}
 use Rattle.model.specs.declared.Shelf.{Shelf}
@@ -18,9 +18,16 @@ phy-from : (ws : List ℕ) (at : ℕ) (x : Phy) → phyOver ws at x ≡ phyOver 
 unfolding phyOver
 phy-from ws at x = simp (getD-drop, add-assoc)
 
-sets-all : (values ws : List ℕ) → length ws ≡ length values → sets ws 0 values ≡ values
-sets-all values ws e =
-    rw (sets-eq values ws 0 (omega arith), drop-of-length-le ws {i = 0 + length values} (omega arith)) (append-nil values)
+-- One zero more: where the first i words are 0, so is then the one at place i.
+pub zeros-more : (ws : List ℕ) (i : ℕ) → i < length ws
+    → set (replicate i 0 ++ drop i ws) i 0 ≡ replicate (suc i) 0 ++ drop (suc i) ws
+zeros-more [] i h = absurd (omega arith)
+zeros-more (w ∷ ws) zero h = refl
+zeros-more (w ∷ ws) (suc i) h = ap (λ others. 0 ∷ others) (zeros-more ws i (omega arith))
+
+-- all of them
+pub zeros-all : (ws : List ℕ) (n : ℕ) → length ws ≡ n → replicate n 0 ++ drop n ws ≡ replicate n 0
+zeros-all ws n e = rw (drop-of-length-le ws {i = n} (omega arith)) (append-nil (replicate n 0))
 
 module _ (ws : List ℕ) where
   -- the words of some phys, without those behind them
@@ -110,13 +117,11 @@ module _ (ws : List ℕ) where
       let there : 12 ≡ 0 + length device = omega arith in
       rw (e₂, e₁, there, sets-append ws device table 0, sets-eq (device ++ table) ws 0 (omega arith), size)
 
-  -- all is zero, then the phys are laid, then the words before them
-  pub whole-laid : (s : Shelf) {first second third : List ℕ} → length ws ≡ 548
-      → first ≡ sets ws 0 (replicate 548 0)
-      → second ≡ take 44 first ++ physOver first 44 (s .phys)
-      → third ≡ (s .number ∷ s .changes ∷ s .expander3 ∷ s .ses0 ∷ map (byte (s .identifier)) eight) ++ s .table ++ drop 44 second
-      → third ≡ wordsOf s
-  unfolding laidOver
-  whole-laid s {first} {second} {third} long e₁ e₂ e₃ =
-      let clear : first ≡ replicate 548 0 = e₁ ∙ sets-all (replicate 548 0) ws long in
-      rw (e₃, e₂, clear) (simp zero-add)
+-- every word is 0, then the phys are laid, then the words before them
+pub whole-laid : (s : Shelf) {first second third : List ℕ}
+    → first ≡ replicate 548 0
+    → second ≡ take 44 first ++ physOver first 44 (s .phys)
+    → third ≡ (s .number ∷ s .changes ∷ s .expander3 ∷ s .ses0 ∷ map (byte (s .identifier)) eight) ++ s .table ++ drop 44 second
+    → third ≡ wordsOf s
+unfolding laidOver
+whole-laid s e₁ e₂ e₃ = rw (e₃, e₂, e₁) (simp zero-add)

@@ -6,7 +6,7 @@ ghost use mathlib.Core.Path.{_≡_};
 ghost use mathlib.Core.Bool.{cond};
 ghost use Prim.Native.Nat.{_+_, _≤_};
 ghost use mathlib.Core.List.{_∷_, _++_, map};
-ghost use lib.ListN.{length, take, drop};
+ghost use lib.ListN.{length, take, drop, replicate};
 ghost use lib.Seq.{sets};
 ghost use Rattle.model.specs.Bytes.{byte};
 ghost use Rattle.model.specs.Shelf.{put, putDevice};
@@ -146,6 +146,16 @@ pub fn put_device(words: &mut [u32; 548], expander3: u16, ses0: u16)
     all[3] = set_low16(all[3], ses0);
 }
 
+// Makes every word 0.
+fn clear(words: &mut [u32])
+    requires { ⌜ length (now words) ≡ 548 ⌝ }
+    ensures { λ _. ⌜ now (words .exit) ≡ replicate 548 0 ⌝ }
+{
+    for i in 0..548usize {
+        words[i] = 0;
+    }
+}
+
 // Writes the words of the phys over those that are there, from word 44 on.
 fn lay_phys(words: &mut [u32], phys: [Phy; 24])
     requires { ⌜ length (now words) ≡ 548 ⌝ }
@@ -206,7 +216,7 @@ pub fn lay(words: &mut [u32; 548], shelf: Shelf)
         identifier,
     );
     let all: &mut [u32] = words;
-    store(all, 0, &[0; 548]);
+    clear(all);
     lay_phys(all, phys);
     lay_front(all, device, table);
 }

@@ -26,7 +26,7 @@ phy-requires c κs = search needs
 returns-2 : tie.Need-returns-2
 returns-2 c =
     let a = c .before .before .args in
-    c .phy .ensures ∙ sym (phy-there (a .words .now) (a .p) (omega arith))
+    rw (phy-there (a .words .now) (a .p) (omega arith)) (c .phy .ensures)
 
 pub phy-at-spec : {M : Type 1} → statement M
 phy-at-spec =

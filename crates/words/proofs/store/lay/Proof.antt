@@ -1,6 +1,5 @@
--- `words::store::lay` meets its contract: all words are zero, then the phys are laid, then the words before them. Assumes nothing.
+-- `words::store::lay` meets its contract: all words are 0, then the phys are laid, then the words before them. Assumes nothing.
 use borrow.Author.Needs.{needs}
-use native.Mathlib.Omega.{arith}
 use mathlib.Core.Path.{_∙_}
 use Rattle.words.proofs.Whole.{whole-laid}
 use Rattle.words.proofs.store.lay.Statement.{statement}
@@ -9,11 +8,8 @@ use Rattle.words.proofs.store.lay.Tie as tie
 device-words-requires : tie.Need-device-words-requires
 device-words-requires c κs = search needs
 
-slice-aggregate-store : tie.Need-slice-aggregate-store
-slice-aggregate-store c = search needs
-
-store-requires : tie.Need-store-requires
-store-requires c κs = search needs
+clear-requires : tie.Need-clear-requires
+clear-requires c κs = search needs
 
 lay-phys-requires : tie.Need-lay-phys-requires
 lay-phys-requires c κs = search needs
@@ -25,10 +21,10 @@ returns : tie.Need-returns
 returns c =
     let phys = c .before .before .before in
     let zeros = phys .before .before .before .before in
-    let device = zeros .before .before .before .before in
+    let device = zeros .before .before .before in
     let a = device .before .before .before .before .args in
-    whole-laid (a .words .now) (a .shelf) (omega arith)
-    (zeros .store .ensures)
+    whole-laid (a .shelf)
+    (zeros .clear .ensures)
     (phys .lay-phys .ensures)
     (c .lay-front .ensures ∙ rw (device .device-words .ensures))
 
@@ -37,8 +33,7 @@ lay-spec =
     tie.close
     (tie.spec
     device-words-requires
-    slice-aggregate-store
-    store-requires
+    clear-requires
     lay-phys-requires
     lay-front-requires
     returns)

@@ -1,10 +1,7 @@
 -- `words::store::put` meets its contract: the change count, and, where the phy has its place, its words. Assumes nothing.
 use borrow.Author.Needs.{needs}
-use Prim.Native.Nat.{_+_, _*_}
 use native.Mathlib.Omega.{arith}
-use Rattle.model.proofs.Laws.Places.{sets-before}
-use Rattle.words.specs.Words.{phyOver}
-use Rattle.words.proofs.Laying.{laid-put, laid-past}
+use Rattle.words.proofs.Laying.{put-stored, laid-past}
 use Rattle.words.proofs.store.put.Statement.{statement}
 use Rattle.words.proofs.store.put.Tie as tie
 
@@ -44,13 +41,9 @@ returns-2 : tie.Need-returns-2
 returns-2 c =
     let stored = c .before .before .before .before in
     let a = stored .before .before .before .before .args in
-    let at = 44 + 21 * (a .p) in
-    rw (
-      c .set-low162 .ensures,
-      stored .store-phy .ensures,
-      sets-before (phyOver (a .words .now) at (a .numbers)) (a .words .now) at 1 0 (omega arith),
-      laid-put (a .words .now) (omega arith) (a .p) (a .numbers) (a .changes) (omega arith),
-    )
+    put-stored (a .words .now) (omega arith) (a .p) (a .numbers) (a .changes) (omega arith)
+    (stored .store-phy .ensures)
+    (c .set-low162 .ensures)
 
 pub put-spec : {M : Type 1} → statement M
 put-spec =

@@ -1,0 +1,66 @@
+-- `words::store::clear` meets its contract. The loop's invariant: the first i words are 0. The measure is how many are left.
+-- Assumes nothing.
+use borrow.Author.Needs.{needs}
+use Prim.Native.Nat.{_-_, _≤_}
+use native.Mathlib.Numerals.{add-one}
+use native.Mathlib.Omega.{arith}
+use mathlib.Core.Path.{_≡_, refl, _∙_}
+use mathlib.Core.List.{_++_}
+use lib.ListN.{length, drop, replicate, length-set}
+use Rattle.words.proofs.Whole.{zeros-more, zeros-all}
+use Rattle.words.proofs.store.clear.Statement.{statement}
+use Rattle.words.proofs.store.clear.Tie as tie
+
+abbrev Inv-loop : tie.InvT-loop
+Inv-loop words₀ i₀ words i = (i ≤ 548) × (length words ≡ 548) × (words ≡ replicate i 0 ++ drop i words₀)
+
+abbrev μ-loop : tie.MeasureT-loop
+μ-loop words₀ i₀ words i = 548 - i
+
+loop-holds : tie.Need-loop-holds Inv-loop μ-loop
+loop-holds c = (omega arith, search needs, refl)
+
+mul-words : tie.Need-mul-words Inv-loop μ-loop
+mul-words c = search needs
+
+slice-write-words : tie.Need-slice-write-words Inv-loop μ-loop
+slice-write-words c = search needs
+
+add-i : tie.Need-add-i Inv-loop μ-loop
+add-i c = search needs
+
+loop-less : tie.Need-loop-less Inv-loop μ-loop
+loop-less c = search needs
+
+loop-again : tie.Need-loop-again Inv-loop μ-loop
+loop-again c =
+    let turn = c .before in (
+      omega arith,
+      simp length-set (turn .loop .inv .1),
+      rw (add-one (turn .loop .i), turn .loop .inv .2)
+          (zeros-more (turn .before .args .words .now) (turn .loop .i) (omega arith)),
+    )
+
+same-length : tie.Need-same-length Inv-loop μ-loop
+same-length c = search needs
+
+returns : tie.Need-returns Inv-loop μ-loop
+returns c =
+    let a = c .before .before .args in
+    let done : c .before .loop .i ≡ 548 = omega arith in
+    c .before .loop .inv .2 ∙ rw done (zeros-all (a .words .now) 548 (omega arith))
+
+pub clear-spec : {M : Type 1} → statement M
+clear-spec =
+    tie.close
+    (tie.spec
+    Inv-loop
+    μ-loop
+    loop-holds
+    mul-words
+    slice-write-words
+    add-i
+    loop-less
+    loop-again
+    same-length
+    returns)
