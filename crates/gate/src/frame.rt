@@ -59,7 +59,7 @@ fn asked(frame: &[u8]) -> Request
     ensures { λ r. ⌜ r ≡ asked (now (frame .entry)) ⌝ }
 {
     let function = byte_at(frame, 1);
-    let expected = word_of(byte_at(frame, 4), byte_at(frame, 5));
+    let expected = word_of(byte_at(frame, 4), byte_at(frame, 5)) as u32;
     let phy = byte_at(frame, 9);
     match function {
         0x00 => Request::ReportGeneral,

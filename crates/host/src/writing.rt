@@ -54,7 +54,7 @@ fn configure(words: &mut [u32; 548], frame: &[u8], clear: bool, phy: u8, d: u8)
 pub(crate) fn serve_control(
     words: &mut [u32; 548],
     source: u32,
-    expected: u16,
+    expected: u32,
     phy: u8,
     operation: u8,
     function: u8,
@@ -85,7 +85,7 @@ pub(crate) fn serve_configure(
     words: &mut [u32; 548],
     source: u32,
     frame: &[u8],
-    expected: u16,
+    expected: u32,
     clear: bool,
     phy: u8,
     d: u8,

@@ -69,7 +69,8 @@ pub enum FunctionResult {
     SmpZoneViolation,
 }
 
-// A request frame as it was read: one variant to a function, with the bytes that it names.
+// A request frame as it was read: one variant to a function, with the bytes that it names. (The expected count, two
+// bytes, is held in 32 bits: so the compiler keeps the variants apart, docs/BENCH.md.)
 // The descriptors of a 93h stay in the frame; `number` says how many there are.
 pub enum Request {
     ReportGeneral,
@@ -85,12 +86,12 @@ pub enum Request {
         phy: u8,
     },
     PhyControl {
-        expected: u16,
+        expected: u32,
         phy: u8,
         operation: u8,
     },
     ConfigurePhyEvent {
-        expected: u16,
+        expected: u32,
         clear: bool,
         phy: u8,
         number: u8,

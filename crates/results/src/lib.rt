@@ -10,10 +10,10 @@ ghost use Rattle.model.specs.Results.{checkKind, checkOperation, checkDescripto
 ghost use Rattle.model.specs.declared.FunctionResult.the-variants.{Accepted};
 
 // Not 04h: "91h and 93h, when bytes 4 and 5 are neither 0000h nor the present count"
-fn count_right(changes: u16, expected: u16) -> bool
+fn count_right(changes: u16, expected: u32) -> bool
     ensures { λ r. ⌜ r ≡ countRight changes expected ⌝ }
 {
-    (expected == 0x0000) | (expected == changes)
+    (expected == 0x0000) | (expected == changes as u32)
 }
 
 // "10h PHY DOES NOT EXIST", then "Not reached", with its result
@@ -37,7 +37,7 @@ pub fn check_read(there: bool, reached: bool) -> FunctionResult
 }
 
 // A write up to its contents: 04h, 10h, and "20h SMP ZONE VIOLATION for 91h and 93h"
-fn check_write(changes: u16, expected: u16, there: bool, reached: bool) -> FunctionResult
+fn check_write(changes: u16, expected: u32, there: bool, reached: bool) -> FunctionResult
     ensures { λ r. ⌜ r ≡ checkWrite (countRight changes expected) there reached Accepted ⌝ }
 {
     if !count_right(changes, expected) {
@@ -90,7 +90,7 @@ fn check_descriptors(frame: &[u8], d: u8) -> FunctionResult
 // A 91h. Its contents are judged only where all before has passed.
 pub fn check_control(
     changes: u16,
-    expected: u16,
+    expected: u32,
     there: bool,
     reached: bool,
     operation: u8,
@@ -107,7 +107,7 @@ pub fn check_control(
 // A 93h with d descriptors. They are judged only where all before has passed.
 pub fn check_configure(
     changes: u16,
-    expected: u16,
+    expected: u32,
     there: bool,
     reached: bool,
     frame: &[u8],

@@ -24,6 +24,9 @@ byte-at-requires-3 c κs = search needs
 word-of-requires : tie.Need-word-of-requires
 word-of-requires c κs = search needs
 
+cast-expected : tie.Need-cast-expected
+cast-expected c = search needs
+
 byte-at-requires-4 : tie.Need-byte-at-requires-4
 byte-at-requires-4 c κs = search needs
 
@@ -107,6 +110,7 @@ asked-spec =
     byte-at-requires-2
     byte-at-requires-3
     word-of-requires
+    cast-expected
     byte-at-requires-4
     byte-at-requires-5
     byte-at-requires-6
