@@ -4,9 +4,10 @@
  * It is written in Rattle and proved (crates/host): each function returns exactly what its
  * definition says, and leaves the shelf and the lent buffer exactly as defined, for every argument
  * that keeps what is asked of C below, in refusals too. `rt staticlib host` writes
- * target/staticlib/libhost.a, for x86-64, which holds them and refers to no other library. Nothing
- * is kept between two calls but the shelf, and nothing is allocated. The two parts that need no
- * device (smp_gate.h) are in the same archive.
+ * target/staticlib/libhost.a, for x86-64, which holds them and refers to memcpy and memset alone.
+ * Nothing is kept between two calls but the shelf, and nothing is allocated. The two parts that need
+ * no device (smp_gate.h) are in an archive of their own, libgate.a, which is linked beside this one
+ * where they are wanted (shelf_day.c does so).
  *
  * The proof is of the Rattle source. It covers neither the compiler's back end nor this header,
  * which nothing compares with that source: tests/run tries both.
@@ -27,7 +28,7 @@ extern "C" {
 
 /* The shelf in C's memory: 548 words of 32 bits and nothing between them, so that the server may
  * read it as such. The definition of the shelf that the words stand for is shelfOf in
- * crates/host/specs/Words.antt.
+ * crates/words/specs/Words.antt.
  *
  * A number that is narrower than 32 bits stands in the low bits of its word; its width is beside
  * it. The bits above are never read, and no call changes them, except a start, which sets them to
@@ -60,6 +61,8 @@ struct smp_shelf {
     struct smp_phy phys[24];
 };
 
+SMP_STATIC_ASSERT(offsetof(struct smp_monitor, value) == 4 * 1, "word 1 of a monitor");
+SMP_STATIC_ASSERT(offsetof(struct smp_monitor, threshold) == 4 * 2, "word 2 of a monitor");
 SMP_STATIC_ASSERT(sizeof(struct smp_monitor) == 4 * 3, "a monitor is 3 words");
 SMP_STATIC_ASSERT(offsetof(struct smp_phy, enabled) == 4 * 1, "word 1 of a phy");
 SMP_STATIC_ASSERT(offsetof(struct smp_phy, errors) == 4 * 2, "words 2 to 5 of a phy");
@@ -86,7 +89,7 @@ SMP_STATIC_ASSERT(sizeof(struct smp_shelf) == 4 * 548, "a shelf is 548 words");
  * Every answer is one number. Bit 31 says that it is a house refusal, and the low bits then are its
  * number, 1 to 9 for H1 to H9; a house refusal leaves the shelf and the buffer as they were. Where
  * bit 31 is not set, the number is what the function's own comment says. The definition is in
- * crates/host/specs/Words.antt.
+ * crates/host/specs/Told.antt.
  */
 static inline bool smp_refused(uint32_t told) { return told >> 31 == 1; }
 static inline uint32_t smp_refusal(uint32_t told) { return smp_refused(told) ? told & 0xF : 0; }

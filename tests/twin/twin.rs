@@ -1,6 +1,5 @@
-//! A second reading of document 01 (doc/01-scope.md), written in plain Rust without looking at the
-//! shelf server Kinubarsil itself: a twin that `drive.rs` runs beside it, and the baseline of
-//! `tests/bench`.
+//! A second reading of document 01, written in plain Rust without looking at the shelf server
+//! Kinubarsil itself: a twin that `drive.rs` runs beside it, and the baseline of `tests/bench`.
 //!
 //! The comments quote the sentences of document 01 where they are carried out. A `cfg!(fault = ..)`
 //! is a planted fault; without `--cfg` it is false and costs nothing. `tests/twin/run --faults`
