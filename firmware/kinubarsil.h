@@ -95,7 +95,8 @@ static inline bool smp_refused(uint32_t told) { return told >> 31 == 1; }
 static inline uint32_t smp_refusal(uint32_t told) { return smp_refused(told) ? told & 0xF : 0; }
 
 /* A start: the fresh shelf is laid into C's memory. Tells 0; or H1, H2 or H3, and then there is no
- * shelf: the memory is as it was.
+ * shelf: the memory is as it was. The memory has been set before, to anything (calloc does, malloc
+ * does not). A start takes about 7.3 KB of stack; every other function takes less than 200 bytes.
  *
  * number      phy number
  * groups      24 groups; those past the phy number are ignored

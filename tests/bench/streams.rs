@@ -1,5 +1,5 @@
 //! The request streams of the benchmark. Each is made before the measured loop, and leaves the
-//! shelf such that it can be run any number of times with the same answers.
+//! shelf such that it can be run any number of times with the same kinds of answers.
 //!
 //! The shelf: phys in groups 8 and 9 by turns; row 8 has bits 1 and 8, row 9 bits 1 and 9, the
 //! other rows from 2 up bit 1 alone. Source 1 reaches all phys, 8 and 9 half of them each. All phys
@@ -13,7 +13,7 @@ pub enum Call {
     Reach { source: u32 },
 }
 
-/// Every stream, with the answer that each call of it has to draw, for `bench check`.
+/// Every stream.
 #[rustfmt::skip]
 pub const NAMES: [&str; 24] = [
     "00", "01", "06", "11", "14", "91", "93", "event", "link_change", "notice", "reach", "mixed",

@@ -17,7 +17,7 @@ use Rattle.model.specs.Shelf.{monitor}
 abbrev pub wordAt : List ℕ → ℕ → ℕ
 wordAt ws i = getD ws i 0
 
--- A word with another number in its low bits, of which there are 8 where `size` is 0x100, and 16 where it is 0x10000.
+-- A word with another number, below `size`, in its low bits: 1 bit where `size` is 2, 8 where it is 0x100, 16 where it is 0x10000.
 abbrev pub lowSet : ℕ → ℕ → ℕ → ℕ
 lowSet size word n = word / size * size + n
 
