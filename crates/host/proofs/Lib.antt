@@ -3,4 +3,5 @@
 pub mod Numbers
 pub mod Answering
 pub mod Serving
+pub mod Coding
 pub mod Settled

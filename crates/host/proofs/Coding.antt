@@ -1,0 +1,46 @@
+-- What C reads off the number that it is told (firmware/kinubarsil.h): whether it is a house refusal and which, the length of a response,
+-- the set of phys that are reached and their number. Assumes nothing.
+use Prim.Native.Nat.{ℕ, _/_, _%_, _≤_}
+use native.Mathlib.Omega.{arith}
+use mathlib.Core.Path.{_≡_}
+use mathlib.Core.List.{List}
+use lib.Count.{ones-le}
+use lib.ListN.{length}
+use Rattle.model.specs.declared.House.{House}
+use Rattle.model.specs.declared.House.the-variants.{PhyNumber, PhyGroup, IllegalTable, SourceGroup, ShortBuffer}
+use Rattle.model.specs.declared.House.the-variants.{BadFrame, NoSuchPhy, EventSource, Amount}
+use Rattle.model.specs.declared.Shelf.{Shelf}
+use Rattle.model.specs.House.{houseNumber}
+use Rattle.model.specs.Reach.{reachSet, reachNumber, reachQuery}
+use Rattle.model.specs.Server.{Sends, handle, answer}
+use Rattle.model.proofs.Demands.Frames.{response-framed}
+use Rattle.model.proofs.Plain.Reach.{reach-answered, reach-ones, reach-set-fits}
+use Rattle.host.specs.Told.{refusedTold, answerTold, reachTold}
+
+-- a house refusal has bit 31, and its number in the four low bits
+pub refused-read : (house : House) → (refusedTold house / 0x80000000 ≡ 1) × (refusedTold house % 0x10 ≡ houseNumber house)
+refused-read PhyNumber = (omega arith, omega arith)
+refused-read PhyGroup = (omega arith, omega arith)
+refused-read IllegalTable = (omega arith, omega arith)
+refused-read SourceGroup = (omega arith, omega arith)
+refused-read ShortBuffer = (omega arith, omega arith)
+refused-read BadFrame = (omega arith, omega arith)
+refused-read NoSuchPhy = (omega arith, omega arith)
+refused-read EventSource = (omega arith, omega arith)
+refused-read Amount = (omega arith, omega arith)
+
+-- a response is told by its length, 4 to 400, and so without bit 31
+pub response-read : (s : Shelf) (g : ℕ) (frame : List ℕ) (room : ℕ) (bytes : List ℕ) → handle s g frame room .reply ≡ Sends bytes
+    → (answerTold (answer (Sends bytes)) ≡ length bytes) × (4 ≤ length bytes) × (length bytes ≤ 400)
+response-read s g frame room bytes sends =
+    let framed = response-framed s g frame room bytes sends in
+    (omega arith, omega (arith, framed .byte-3), framed .longest)
+
+-- a reach query is told by the set in bits 0 to 23 and its number above them, without bit 31
+pub reach-read : (s : Shelf) (g : ℕ) → g ≤ 31
+    → let told = reachTold (reachQuery s g) in
+    (told / 0x80000000 ≡ 0) × (told % 0x1000000 ≡ reachSet s g) × (told / 0x1000000 % 0x20 ≡ reachNumber s g)
+reach-read s g group =
+    let fits = reach-set-fits s g in
+    let few = ones-le 24 (reachSet s g) fits in
+    rw (reach-answered s g group, reach-ones s g) (omega (arith, fits, few), omega (arith, fits, few), omega (arith, fits, few))
