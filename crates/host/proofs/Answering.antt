@@ -6,8 +6,16 @@ use mathlib.Core.Bool.{Bool, true, false, cond}
 use mathlib.Core.List.{List, _++_}
 use lib.ListN.{length, take, drop}
 use lib.Seq.{take-length}
+use Rattle.model.specs.declared.FunctionResult.{FunctionResult}
+use Rattle.model.specs.declared.FunctionResult.the-variants.{Accepted}
+use Rattle.model.specs.declared.Request.{Request}
+use Rattle.model.specs.declared.Shelf.{Shelf}
+use Rattle.model.specs.Reply.{failed, respond}
+use Rattle.model.specs.Results.{resultCode}
 use Rattle.replies.specs.Sent.{Sent}
 use Rattle.replies.proofs.Sending.{has-room}
+use Rattle.results.proofs.Passing.{Other, not-accepted}
+use Rattle.server.specs.Serving.{drawn}
 use Rattle.words.specs.Words.{shelfOf, laidOver}
 use Rattle.words.proofs.Laying.{laid-same}
 use Rattle.host.specs.Answers.{Answers}
@@ -26,3 +34,13 @@ sent-all out bytes room sent = rw (has-room out bytes room) at sent
 pub read-keeps : (ws : List ℕ) → length ws ≡ 548 → (b : Bool) → ws ≡ laidOver ws (cond b (shelfOf ws) (shelfOf ws))
 read-keeps ws long true = sym (laid-same ws long)
 read-keeps ws long false = sym (laid-same ws long)
+
+-- Where the result of a request is known: not accepted, and its four bytes were sent; or accepted, and its response was.
+module _ (s : Shelf) (g : ℕ) (request : Request) (function : ℕ) {result known : FunctionResult} (is : result ≡ known) (out : List ℕ) where
+  pub fails : {after : List ℕ} {size : ℕ} → Other result → 1028 ≤ length out → Sent out (failed function (resultCode result)) size after
+      → Answers out (drawn s g request function known) size after
+  fails other room sent = rw (← is, not-accepted result other) (sent-all out _ room sent)
+
+  pub grants : {after : List ℕ} {size : ℕ} → result ≡ Accepted → Answers out (respond s g request) size after
+      → Answers out (drawn s g request function known) size after
+  grants accepted answers = rw (← is, accepted) answers

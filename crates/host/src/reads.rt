@@ -14,6 +14,7 @@ use shelf::phys::phy_number;
 use words::read::identifier;
 use words::read::low16;
 use words::read::phy_at;
+ghost use mathlib.Core.Path.{_≡_};
 ghost use Prim.Native.Nat.{_≤_};
 ghost use lib.ListN.{length};
 ghost use Rattle.model.specs.declared.Request.the-variants.{ReportBroadcast, ReportPhyErrorLog, ReportPhyEvent};
@@ -60,6 +61,13 @@ pub(crate) fn serve_broadcast(
     report_broadcast_words(words, source, kind, out)
 }
 
+// What a read of a phy comes to: 10h, 16h, or accepted.
+fn read_result(words: &[u32; 548], source: u32, phy: u8) -> FunctionResult
+    ensures { λ r. ⌜ r ≡ readResult (now (words .entry)) source phy ⌝ }
+{
+    check_read(there(words, phy), reached(words, source, phy))
+}
+
 // 11h
 pub(crate) fn serve_error_log(
     words: &[u32; 548],
@@ -71,7 +79,7 @@ pub(crate) fn serve_error_log(
     requires { ⌜ 1028 ≤ length (now out) ⌝ }
     ensures { λ r. ⌜ Answers (now (out .entry)) (drawn (shelfOf (now (words .entry))) source (ReportPhyErrorLog phy) function (readResult (now (words .entry)) source phy)) r (now (out .exit)) ⌝ }
 {
-    let result = check_read(there(words, phy), reached(words, source, phy));
+    let result = read_result(words, source, phy);
     let FunctionResult::Accepted = result else {
         return send_result(function, result, out);
     };
@@ -93,7 +101,7 @@ pub(crate) fn serve_phy_event(
     requires { ⌜ 1028 ≤ length (now out) ⌝ }
     ensures { λ r. ⌜ Answers (now (out .entry)) (drawn (shelfOf (now (words .entry))) source (ReportPhyEvent phy) function (readResult (now (words .entry)) source phy)) r (now (out .exit)) ⌝ }
 {
-    let result = check_read(there(words, phy), reached(words, source, phy));
+    let result = read_result(words, source, phy);
     let FunctionResult::Accepted = result else {
         return send_result(function, result, out);
     };

@@ -2,9 +2,7 @@
 -- source reaches. The measure is how many of the 24 places are left. Assumes nothing.
 use borrow.Author.Needs.{needs}
 use Prim.Native.Nat.{ℕ, _+_, _-_, _≤_}
-use native.Mathlib.Numerals.{add-one}
 use native.Mathlib.Omega.{arith}
-use borrow.Author.Tests.{lt-ltb}
 use mathlib.Core.Path.{_≡_, _∙_}
 use mathlib.Core.Bool.{Bool}
 use mathlib.Core.List.{List}
@@ -13,6 +11,7 @@ use Rattle.model.specs.Shelf.{phyAt}
 use Rattle.model.specs.Tests.{sumBelow}
 use Rattle.model.specs.Zone.{rowReaches}
 use Rattle.model.proofs.Laws.Bits.{powers, powers-fit}
+use Rattle.shelf.proofs.Adding.{bit-added}
 use Rattle.words.specs.Words.{shelfOf}
 use Rattle.host.proofs.Numbers.{number-read}
 use Rattle.host.proofs.reach.reach_set.Statement.{statement}
@@ -57,11 +56,9 @@ reachedHere c =
 added : (c : tie.After-phy-bit Inv-loop μ-loop)
     → c .before .before .before .loop .set + c .phy-bit .result
     ≡ powers (c .before .before .before .loop .p + 1) (reachedHere c)
-unfolding sumBelow
 added c =
     let turn = c .before .before .before in
-    let bit = rw (lt-ltb (turn .loop .p) 24 (omega arith)) at (c .phy-bit .ensures) in
-    rw add-one (cc)
+    bit-added (turn .loop .p) (reachedHere c) (omega arith) (turn .loop .inv .1) (rw (c .before .phy-at .ensures) at (c .phy-bit .ensures))
 
 add-set : tie.Need-add-set Inv-loop μ-loop
 add-set c = rw (added c) (record { fits = powers-fit 32 _ (reachedHere c) (omega arith) })

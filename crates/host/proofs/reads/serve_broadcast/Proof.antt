@@ -1,9 +1,10 @@
 -- `host::reads::serve_broadcast` meets its contract: a failed result, or the list. Assumes nothing.
 use borrow.Author.Needs.{needs}
 use native.Mathlib.Omega.{arith}
+use Rattle.model.specs.declared.Request.the-variants.{ReportBroadcast}
 use Rattle.model.specs.Reply.{respond}
-use Rattle.results.proofs.Passing.{not-accepted}
-use Rattle.host.proofs.Answering.{sent-all}
+use Rattle.words.specs.Words.{shelfOf}
+use Rattle.host.proofs.Answering.{sent-all, fails, grants}
 use Rattle.host.proofs.reads.serve_broadcast.Statement.{statement}
 use Rattle.host.proofs.reads.serve_broadcast.Tie as tie
 
@@ -25,8 +26,8 @@ returns c =
     let failed = sent .before .before in
     let checked = failed .before in
     let a = checked .before .before .args in
-    rw (← checked .check-kind .ensures, not-accepted (checked .check-kind .result) (failed .match .keys2))
-    (sent-all (a .out .now) _ (omega arith) (sent .send-result .ensures))
+    fails (shelfOf (a .words .now)) (a .source) (ReportBroadcast (a .kind)) (a .function) (checked .check-kind .ensures) (a .out .now) (failed .match .keys2)
+    (omega arith) (sent .send-result .ensures)
 
 report-broadcast-words-requires : tie.Need-report-broadcast-words-requires
 report-broadcast-words-requires c κs = search needs
@@ -41,7 +42,7 @@ returns-2 c =
     let granted = listed .before .before in
     let checked = granted .before .before in
     let a = checked .before .before .args in
-    rw (← checked .check-kind .ensures, granted .enum-told .given .1)
+    grants (shelfOf (a .words .now)) (a .source) (ReportBroadcast (a .kind)) (a .function) (checked .check-kind .ensures) (a .out .now) (granted .enum-told .given .1)
     (sent-all (a .out .now) _ (omega arith) (listed .report-broadcast-words .ensures))
 
 pub serve-broadcast-spec : {M : Type 1} → statement M

@@ -1,23 +1,16 @@
 -- `host::reads::serve_error_log` meets its contract: a failed result, or the response from the phy's record. Assumes nothing.
 use borrow.Author.Needs.{needs}
 use native.Mathlib.Omega.{arith}
-use mathlib.Core.Path.{_≡_}
+use Rattle.model.specs.declared.Request.the-variants.{ReportPhyErrorLog}
 use Rattle.model.specs.Reply.{respond}
-use Rattle.results.proofs.Passing.{not-accepted}
-use Rattle.host.specs.Answers.{readResult}
-use Rattle.host.proofs.Answering.{copied, sent-all}
+use Rattle.words.specs.Words.{shelfOf}
+use Rattle.host.proofs.Answering.{copied, fails, grants}
 use Rattle.host.proofs.Numbers.{changes-read}
 use Rattle.host.proofs.reads.serve_error_log.Statement.{statement}
 use Rattle.host.proofs.reads.serve_error_log.Tie as tie
 
-there-requires : tie.Need-there-requires
-there-requires c κs = search needs
-
-reached-requires : tie.Need-reached-requires
-reached-requires c κs = search needs
-
-check-read-requires : tie.Need-check-read-requires
-check-read-requires c κs = search needs
+read-result-requires : tie.Need-read-result-requires
+read-result-requires c κs = search needs
 
 enum-told : tie.Need-enum-told
 enum-told c = search needs
@@ -28,20 +21,14 @@ send-result-requires c κs = search needs
 same-length : tie.Need-same-length
 same-length c = search needs
 
--- the result is the definition's, on this shelf
-result-is : (c : tie.After-check-read)
-    → let a = c .before .before .before .before .args in
-    c .check-read .result ≡ readResult (a .words .now) (a .source) (a .phy)
-result-is c = rw (c .before .reached .ensures, c .before .before .there .ensures) at (c .check-read .ensures)
-
 returns : tie.Need-returns
 returns c =
     let sent = c .before .before in
     let failed = sent .before .before in
     let checked = failed .before in
-    let a = checked .before .before .before .before .args in
-    rw (← result-is checked, not-accepted (checked .check-read .result) (failed .match .keys2))
-    (sent-all (a .out .now) _ (omega arith) (sent .send-result .ensures))
+    let a = checked .before .before .args in
+    fails (shelfOf (a .words .now)) (a .source) (ReportPhyErrorLog (a .phy)) (a .function) (checked .read-result .ensures) (a .out .now) (failed .match .keys2)
+    (omega arith) (sent .send-result .ensures)
 
 element-copy-out-low16 : tie.Need-element-copy-out-low16
 element-copy-out-low16 c = search needs
@@ -73,8 +60,8 @@ returns-2 c =
     let counted = read .before in
     let granted = counted .before .before in
     let checked = granted .before .before in
-    let a = checked .before .before .before .before .args in
-    rw (← result-is checked, granted .enum-told .given .1)
+    let a = checked .before .before .args in
+    grants (shelfOf (a .words .now)) (a .source) (ReportPhyErrorLog (a .phy)) (a .function) (checked .read-result .ensures) (a .out .now) (granted .enum-told .given .1)
     (copied (a .out .now) (sent .copy .ensures .0) (sent .copy .ensures .1)
     (rw (read .phy-at .ensures, counted .low16 .ensures, changes-read (a .words .now)) at (made .report-phy-error-log .ensures)))
 
@@ -82,9 +69,7 @@ pub serve-error-log-spec : {M : Type 1} → statement M
 serve-error-log-spec =
     tie.close
     (tie.spec
-    there-requires
-    reached-requires
-    check-read-requires
+    read-result-requires
     enum-told
     send-result-requires
     same-length

@@ -2,11 +2,9 @@
 -- source reaches. The measure is how many of the 24 places are left. Assumes nothing.
 use borrow.Author.Needs.{needs}
 use Prim.Native.Nat.{ℕ, _+_, _-_, _≤_}
-use native.Mathlib.Numerals.{add-one}
 use native.Mathlib.Omega.{arith}
 use mathlib.Core.Path.{_≡_, _∙_}
 use mathlib.Core.Bool.{Bool}
-use borrow.Author.Tests.{lt-ltb}
 use mathlib.Core.List.{List}
 use lib.ListN.{getD}
 use Rattle.model.specs.declared.Phy.{Phy}
@@ -15,6 +13,7 @@ use Rattle.model.specs.Shelf.{noPhy}
 use Rattle.model.specs.Tests.{sumBelow}
 use Rattle.model.specs.Zone.{rowReaches}
 use Rattle.model.proofs.Laws.Bits.{powers, powers-fit}
+use Rattle.shelf.proofs.Adding.{bit-added}
 use Rattle.shelf.proofs.reach.reach_set.Statement.{statement}
 use Rattle.shelf.proofs.reach.reach_set.Tie as tie
 
@@ -54,11 +53,9 @@ reachedHere c =
 added : (c : tie.After-phy-bit Inv-loop μ-loop)
     → c .before .before .before .loop .set + c .phy-bit .result
     ≡ powers (c .before .before .before .loop .p + 1) (reachedHere c)
-unfolding sumBelow
 added c =
     let turn = c .before .before .before in
-    let bit = rw (lt-ltb (turn .loop .p) 24 (omega arith)) at (c .phy-bit .ensures) in
-    rw add-one (cc)
+    bit-added (turn .loop .p) (reachedHere c) (omega arith) (turn .loop .inv .1) (rw (c .before .phy-at .ensures) at (c .phy-bit .ensures))
 
 add-set : tie.Need-add-set Inv-loop μ-loop
 add-set c = rw (added c) (record { fits = powers-fit 32 _ (reachedHere c) (omega arith) })
