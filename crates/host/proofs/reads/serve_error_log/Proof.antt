@@ -1,8 +1,10 @@
 -- `host::reads::serve_error_log` meets its contract: a failed result, or the response from the phy's record. Assumes nothing.
 use borrow.Author.Needs.{needs}
 use native.Mathlib.Omega.{arith}
+use mathlib.Core.Path.{_≡_}
 use Rattle.model.specs.declared.Request.the-variants.{ReportPhyErrorLog}
-use Rattle.model.specs.Reply.{respond}
+use Rattle.model.specs.Reply.{reportPhyErrorLog, respond}
+use Rattle.model.specs.Shelf.{phyAt}
 use Rattle.words.specs.Words.{shelfOf}
 use Rattle.host.proofs.Answering.{copied, fails, grants}
 use Rattle.host.proofs.Numbers.{changes-read}
@@ -61,9 +63,11 @@ returns-2 c =
     let granted = counted .before .before in
     let checked = granted .before .before in
     let a = checked .before .before .args in
-    grants (shelfOf (a .words .now)) (a .source) (ReportPhyErrorLog (a .phy)) (a .function) (checked .read-result .ensures) (a .out .now) (granted .enum-told .given .1)
-    (copied (a .out .now) (sent .copy .ensures .0) (sent .copy .ensures .1)
-    (rw (read .phy-at .ensures, counted .low16 .ensures, changes-read (a .words .now)) at (made .report-phy-error-log .ensures)))
+    let s = shelfOf (a .words .now) in
+    let bytes : made .report-phy-error-log .result ≡ reportPhyErrorLog (s .changes) (a .phy) (phyAt s (a .phy)) =
+    rw (read .phy-at .ensures, counted .low16 .ensures, changes-read (a .words .now)) at (made .report-phy-error-log .ensures) in
+    grants s (a .source) (ReportPhyErrorLog (a .phy)) (a .function) (checked .read-result .ensures) (a .out .now) (granted .enum-told .given .1)
+    (copied (a .out .now) (sent .copy .ensures .0) (sent .copy .ensures .1) bytes)
 
 pub serve-error-log-spec : {M : Type 1} → statement M
 serve-error-log-spec =
