@@ -1,11 +1,12 @@
 -- What the request demands, as theorems over the definitions.
 
--- demands 1 and 2: the house refusals, the function results, the writes and their effects, what fits, the response frames, what every
--- operation keeps, what moves the change count, and that every request and report has one outcome
+-- demands 1 and 2: the house refusals, the function results, the writes, their effects and those of event reports, what fits, the response
+-- frames, what every operation keeps, what moves the change count, and that every request and report has one outcome
 pub mod Refusals
 pub mod Results
 pub mod Writes
 pub mod Effects
+pub mod Events
 pub mod Fits
 pub mod Frames
 pub mod Invariant

@@ -74,7 +74,7 @@ stays-hold =
 pub peaks-hold : Holds peaks
 unfolding peaks computes
 peaks-hold =
-    (refl, (refl, (refl, (refl, (refl, (refl, tt))))))
+    (refl, (refl, (refl, (refl, (refl, (refl, (refl, tt)))))))
 
 -- demand 3's crossing-out
 pub crossed-hold : Fate true crossed

@@ -18,9 +18,11 @@ pub mod Server
 pub mod Sources
 pub mod Counting
 pub mod Reports
--- "What each promise has to rule out": that it settles its outcome; and for demand 3 runs, and what is crossed out of them
+-- "What each promise has to rule out": that it settles its outcome; runs, and the sizes and widths of what is in them; and for demand 3
+-- what is crossed out of them
 pub mod Settled
 pub mod Runs
+pub mod Fits
 pub mod CrossedOut
 -- "Shelf W, for checking": the reader of hexadecimal, the shelf, the cases, and further vectors
 pub mod Hex

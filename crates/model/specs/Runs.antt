@@ -1,5 +1,6 @@
 -- What can happen to a shelf, one thing after another: requests, hardware reports and reach queries; and what a source group gets.
 use Prim.Native.Nat.{ℕ}
+use mathlib.Core.Path.{_≡_}
 use mathlib.Core.Bool.{cond}
 use mathlib.Core.List.{List, [], _∷_, _++_}
 use lib.Dec.{eqb}
@@ -7,9 +8,11 @@ use lib.ListN.{length}
 use Rattle.model.specs.declared.Answer.{Answer}
 use Rattle.model.specs.declared.Reach.{Reach}
 use Rattle.model.specs.declared.Shelf.{Shelf}
+use Rattle.model.specs.declared.Taken.the-variants.{Done}
 use Rattle.model.specs.Reach.{reachQuery}
 use Rattle.model.specs.Reports.{event, linkChange, reducedFunctionality, sesNotice}
 use Rattle.model.specs.Server.{handle, served, lentAfter}
+use Rattle.model.specs.Shelf.{startTaken, start}
 
 -- A request has its source group, its frame and the lent buffer: "The length and contents of the lent buffer are part of a request."
 -- An event has its phy, source and amount, a link change its phy, a reach query its source group.
@@ -34,6 +37,16 @@ next s (QueryReach g) = s
 unfoldable pub after : Shelf → List Operation → Shelf
 after s [] = s
 after s (operation ∷ operations) = after (next s operation) operations
+
+-- A shelf that a start gave, after any operations: what was started, and what has happened since.
+pub record Started (s : Shelf) : Type 0 where
+  pub number : ℕ
+  pub groups : List ℕ
+  pub table : List ℕ
+  pub identifier : List ℕ
+  pub done : startTaken number groups table ≡ Done
+  pub operations : List Operation
+  pub now : after (start number groups table identifier .shelf) operations ≡ s
 
 -- What a source gets: to a request the answer, "byte for byte", with the whole lent buffer afterwards; to a reach query its answer.
 pub data Told : Type 0 where

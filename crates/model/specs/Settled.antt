@@ -1,13 +1,14 @@
 -- "The promise of a public function settles, for all inputs, the result, the next state and the lent buffer afterwards, in refusals
--- too. Show that no two differing outcomes satisfy it". The next state is part of the result: a shelf goes in and comes back by value.
+-- too. Show that no two differing outcomes satisfy it". The shelf is kept in words that the caller lends: the next state is what these
+-- words hold at the function's exit (`lent`), where the buffer's bytes afterwards are too.
 --
 -- A promise is taken as the toolchain reads it off the function's source, so that nothing is typed a second time: `Kinds` of a function
 -- has the kinds of its parameters (ps) and of its result (r), `Reads` what it may assume (`Pre`) and must show (`Post`). Every clause here
 -- is a plain ⌜ ⌝, so these are also what its caller shows and learns. κs are the lifetimes of what is lent, a the arguments.
 --
 -- A promise that nothing can keep would be settled too; that one outcome keeps it is the function's own proof, since it always returns.
--- The arguments have in them where lent memory lies; that no answer depends on it is `run-answers` of the crate `calls`. No public
--- function gives a reference back, so what each `&mut` holds at the exit is known.
+-- The arguments have in them where lent memory lies: that no answer, and no word and no byte afterwards, depends on it is a theorem over
+-- what the promises allow, in crates/calls. No public function gives a reference back, so what each `&mut` holds at the exit is known.
 use Prim.Native.Nat.{ℕ}
 use mathlib.Core.Path.{_≡_}
 use mathlib.Core.List.{List}

@@ -1,15 +1,17 @@
 -- "Change also moves the change count the same way", and nothing else does. Assumes nothing.
-use Prim.Native.Nat.{ℕ, _<_}
+use Prim.Native.Nat.{ℕ}
 use mathlib.Core.Path.{_≡_, refl, ap, _∙_}
 use mathlib.Core.Bool.{Bool, true, false, false≢true}
 use lib.Dec.{T}
-use lib.ListN.{length, getD}
+use lib.ListN.{getD}
 use Rattle.model.specs.declared.Phy.{Phy}
 use Rattle.model.specs.declared.Shelf.{Shelf}
 use Rattle.model.specs.Counting.{originate, originateIf, changeOn}
+use Rattle.model.specs.Fits.{Placed}
 use Rattle.model.specs.Reports.{eventTaken, event, linkChangeTaken, linkChange, reducedFunctionality, sesNotice}
-use Rattle.model.specs.Runs.{Operation, Ask, Event, LinkChange, ReducedFunctionality, Ses, QueryReach, next}
+use Rattle.model.specs.Runs.{Operation, Ask, Event, LinkChange, ReducedFunctionality, Ses, QueryReach, next, Started}
 use Rattle.model.specs.Shelf.{noPhy, exists, phyAt, put, outcome}
+use Rattle.model.proofs.Demands.Invariant.{started-placed, phy-placed}
 use Rattle.model.proofs.Laws.Checks.{every-outcome}
 use Rattle.model.proofs.Laws.PhyChanges.{Changes, event-changes, change-changes, configured-changes}
 use Rattle.model.proofs.Laws.PhyChanges.{controlled-changes}
@@ -24,7 +26,7 @@ pub record Together (s t : Shelf) : Type 0 where
   pub phy : ℕ
   pub count : t .changes ≡ originateIf originates (s .changes)
   pub there : originates ≡ true → T (exists s phy)
-  pub here : phy < length (s .phys) → phyAt t phy .change0 ≡ originateIf originates (phyAt s phy .change0)
+  pub here : phyAt t phy .change0 ≡ originateIf originates (phyAt s phy .change0)
   pub others : (q : ℕ) → (q ≡ phy → ⊥) → phyAt t q .change0 ≡ phyAt s q .change0
 
 all-change : (operation : Operation) → KeptBy Changes operation
@@ -44,13 +46,13 @@ still s t phys count =
       phy = 0;
       there = λ e. absurd (false≢true e);
       count = count;
-      here = λ h. same 0;
+      here = same 0;
       others = λ q apart. same q;
     }
 
-step-together : (s t : Shelf) → Step Changes s t → Together s t
-step-together s t (Stays e) = still s t (ap (λ u. u .phys) e) (ap (λ u. u .changes) e)
-step-together s t (ChangesPhy p f moves there changes e) =
+step-together : (s t : Shelf) → Placed s → Step Changes s t → Together s t
+step-together s t placed (Stays e) = still s t (ap (λ u. u .phys) e) (ap (λ u. u .changes) e)
+step-together s t placed (ChangesPhy p f moves there changes e) =
     let x : Phy = phyAt s p in
     let n : ℕ = originateIf (moves x) (s .changes) in
     rw e
@@ -59,13 +61,15 @@ step-together s t (ChangesPhy p f moves there changes e) =
       phy = p;
       there = λ moving. there;
       count = refl;
-      here = λ h. ap (λ y. y .change0) (put-same s p (f x) n h) ∙ changes x;
+      here = ap (λ y. y .change0) (put-same s p (f x) n (phy-placed s p placed there .0)) ∙ changes x;
       others = λ q apart. ap (λ y. y .change0) (put-other s p (f x) n q apart);
     })
-step-together s t (CountsNotice a b e) = still s t (ap (λ u. u .phys) e) (ap (λ u. u .changes) e)
+step-together s t placed (CountsNotice a b e) = still s t (ap (λ u. u .phys) e) (ap (λ u. u .changes) e)
 
-pub next-together : (s : Shelf) (operation : Operation) → Together s (next s operation)
-next-together s operation = step-together s (next s operation) (next-step Changes s operation (all-change operation))
+-- of every started shelf, after any operations
+pub next-together : (s : Shelf) → Started s → (operation : Operation) → Together s (next s operation)
+next-together s started operation =
+    step-together s (next s operation) (started-placed s started) (next-step Changes s operation (all-change operation))
 
 -- ---- The reports: an event, and a device notice, leaves the change count; a link change on a phy that exists originates it.
 

@@ -17,19 +17,21 @@ use Rattle.model.specs.declared.Request.the-variants.{PhyControl, Config
 use Rattle.model.specs.declared.Shelf.{Shelf}
 use Rattle.model.specs.Bytes.{byte}
 use Rattle.model.specs.Counting.{originate, originateIf, withValue, changeOn}
+use Rattle.model.specs.Fits.{Placed}
 use Rattle.model.specs.Reply.{monitorAt}
 use Rattle.model.specs.Request.{clears, descriptorSource, descriptorThreshold}
-use Rattle.model.specs.Shelf.{noPhy, phyAt, monitor, phyWith, shelfWith, freshMonitor}
+use Rattle.model.specs.Shelf.{exists, noPhy, phyAt, monitor, phyWith, shelfWith, freshMonitor}
 use Rattle.model.specs.Sources.{peak}
 use Rattle.model.specs.Writes.{controlled, controlChanges, setMonitor, setMonitors, withMonitors, setOn, clearMonitor}
 use Rattle.model.specs.Writes.{anyPeak, clearOn, configured, effect}
+use Rattle.model.proofs.Demands.Invariant.{phy-placed}
 use Rattle.model.proofs.Laws.Tests.{and-iff, not-both-iff, both-iff, cond-iff, cond-both, eqb-iff, by-each}
 use Rattle.model.proofs.Plain.Results.{knownOperations}
 use Rattle.model.proofs.Plain.Shelf.{OnlyPhy, put-same, put-only}
 use Rattle.model.proofs.Plain.Writes.{set-length, set-at, HasPeak, anyPeak-iff}
 
 -- Two shelves that differ from s in phy p and in the change count at most, and agree in these, are one.
-same-shelf : {s t u : Shelf} {p : ℕ} → OnlyPhy s p t → OnlyPhy s p u
+pub same-shelf : {s t u : Shelf} {p : ℕ} → OnlyPhy s p t → OnlyPhy s p u
     → phyAt t p ≡ phyAt u p → t .changes ≡ u .changes → t ≡ u
 same-shelf {s} {t} {u} {p} a b same count =
     let phys : t .phys ≡ u .phys =
@@ -70,11 +72,12 @@ pub record Controlled (s : Shelf) (p operation : ℕ) (t : Shelf) : Type 0 where
   pub disabled-already : operation ≡ 0x03 → phyAt s p .enabled ≡ false → t ≡ s
   pub clear-errors : operation ≡ 0x05 → Has t p (errorless (phyAt s p)) (s .changes)
 
--- an accepted 91h, of a phy that there is, does exactly this
-pub controlled-effect : (s : Shelf) (frame : List ℕ) (expected p operation : ℕ) → p < length (s .phys)
+-- an accepted 91h, of a phy that exists, does exactly this
+pub controlled-effect : (s : Shelf) (frame : List ℕ) (expected p operation : ℕ) → Placed s → T (exists s p)
     → Controlled s p operation (effect s frame (PhyControl expected p operation))
 unfolding effect controlled controlChanges changeOn
-controlled-effect s frame expected p operation h =
+controlled-effect s frame expected p operation placed there =
+    let (h, _) = phy-placed s p placed there in
     record {
       only = put-only s p _ _;
       none = λ e. rw (e, set-getD);
@@ -122,13 +125,12 @@ pub record Configured (s : Shelf) (p : ℕ) (frame : List ℕ) (t : Shelf) : Typ
   pub rest : let x : Phy = phyAt s p in
       phyAt t p
       ≡ phyWith x (x .enabled) (x .errors) (phyAt t p .monitors) (x .change0) (x .expander1) (phyAt t p .expander2)
-  pub number : length (phyAt t p .monitors) ≡ length (phyAt s p .monitors)
-  pub each : (i : ℕ) → i < length (phyAt s p .monitors)
-      → MonitorConfigured frame i (monitorAt (phyAt s p) i) (monitorAt (phyAt t p) i)
-  pub originated : T (clears frame) → (i : ℕ) → i < length (phyAt s p .monitors)
-      → T (peak (monitorAt (phyAt t p) i .source)) → phyAt t p .expander2 ≡ originate (phyAt s p .expander2)
-  pub not-originated : (T (clears frame) → (i : ℕ) → i < length (phyAt s p .monitors)
-      → T (peak (monitorAt (phyAt t p) i .source)) → ⊥) → phyAt t p .expander2 ≡ phyAt s p .expander2
+  pub number : length (phyAt t p .monitors) ≡ 4
+  pub each : (i : ℕ) → i < 4 → MonitorConfigured frame i (monitorAt (phyAt s p) i) (monitorAt (phyAt t p) i)
+  pub originated : T (clears frame) → (i : ℕ) → i < 4 → T (peak (monitorAt (phyAt t p) i .source))
+      → phyAt t p .expander2 ≡ originate (phyAt s p .expander2)
+  pub not-originated : (T (clears frame) → (i : ℕ) → i < 4 → T (peak (monitorAt (phyAt t p) i .source)) → ⊥)
+      → phyAt t p .expander2 ≡ phyAt s p .expander2
 
 -- ---- one monitor: what it is set to, and what the clear then makes of it
 
@@ -267,19 +269,21 @@ module _ (frame : List ℕ) (x : Phy) where
       go true = rw cleared-peaks
       go false = refl
 
-  number-after : length monitorsAfter ≡ length (x .monitors)
-  number-after = cleared-length (clears frame) monitorsSet ∙ set-length frame (byte frame 11) 0 (x .monitors)
+  number-after : length (x .monitors) ≡ 4 → length monitorsAfter ≡ 4
+  number-after four = cleared-length (clears frame) monitorsSet ∙ set-length frame (byte frame 11) 0 (x .monitors) ∙ four
 
-  each-after : (i : ℕ) → i < length (x .monitors)
+  each-after : length (x .monitors) ≡ 4 → (i : ℕ) → i < 4
       → getD monitorsAfter i freshMonitor ≡ monitorAfter frame i (monitorAt x i)
-  each-after i h = rw (cleared-at, set-at frame (byte frame 11) (x .monitors) 0 i i (zero-add i) h) (after-is frame i (monitorAt x i))
+  each-after four i h =
+      rw (cleared-at, set-at frame (byte frame 11) (x .monitors) 0 i i (zero-add i) (rw four h)) (after-is frame i (monitorAt x i))
 
--- an accepted 93h, of a phy that there is, does exactly this
-pub configured-effect : (s : Shelf) (frame : List ℕ) (expected p : ℕ) → p < length (s .phys)
+-- an accepted 93h, of a phy that exists, does exactly this
+pub configured-effect : (s : Shelf) (frame : List ℕ) (expected p : ℕ) → Placed s → T (exists s p)
     → Configured s p frame (effect s frame (ConfigurePhyEvent expected (clears frame) p (byte frame 11)))
 unfolding effect
-configured-effect s frame expected p h =
+configured-effect s frame expected p placed there =
     let x : Phy = phyAt s p in
+    let (h, (_, four)) = phy-placed s p placed there in
     let ms : List Monitor = monitorsAfter frame x in
     let new = put-same s p (configured frame (byte frame 11) (clears frame) x) (s .changes) h ∙ configured-is frame x in
     let (finding, missing) = cond-iff (clears frame && anyPeak ms) _ (originate (x .expander2)) (x .expander2) .0 refl in
@@ -287,15 +291,15 @@ configured-effect s frame expected p h =
       only = put-only s p _ _;
       changes = refl;
       rest = rw new;
-      number = rw new (number-after frame x);
-      each = rw new (λ i l. rw (each-after frame x i l) (after-configured frame i (monitorAt x i)));
-      originated = rw new (λ clear i l top. finding (finds-iff frame ms .1 (clear, (i, rw (number-after frame x) l, top))));
+      number = rw new (number-after frame x four);
+      each = rw new (λ i l. rw (each-after frame x four i l) (after-configured frame i (monitorAt x i)));
+      originated = rw new (λ clear i l top. finding (finds-iff frame ms .1 (clear, (i, rw (number-after frame x four) l, top))));
       not-originated = rw new
           (λ none.
           missing
           (λ found.
           let (clear, (i, l, top)) = finds-iff frame ms .0 found in
-          none clear i (rw (number-after frame x) at l) top));
+          none clear i (rw (number-after frame x four) at l) top));
     }
 
 -- no two shelves are left by one 93h: its monitors are settled one by one, and they settle Expander 2h
@@ -317,6 +321,6 @@ configured-one-shelf {s} {t} {u} {p} {frame} a b =
     let monitors : phyAt t p .monitors ≡ phyAt u p .monitors =
     ext-getD freshMonitor _ _ (a .number ∙ sym (b .number))
     (λ i h.
-    let l : i < length (phyAt s p .monitors) = rw (a .number) at h in
+    let l : i < 4 = rw (a .number) at h in
     configured-after frame (a .each i l) ∙ sym (configured-after frame (b .each i l))) in
     same-shelf (a .only) (b .only) (cc (a .rest, b .rest, expander2-is a, expander2-is b)) (cc)

@@ -1,67 +1,28 @@
--- What the types of a shelf's record say, its sizes and widths, as statements about the model's numbers, which have none; and that what
--- happens to one phy keeps them. Assumes nothing.
-use Prim.Native.Nat.{ℕ, _+_, _≤_, _<_}
+-- What happens to one phy keeps the sizes and widths of its record (`specs/Fits`). Assumes nothing.
+use Prim.Native.Nat.{ℕ, zero, suc, _+_, _≤_}
 use native.Mathlib.Nat.{zero-add}
 use native.Mathlib.Omega.{arith}
 use mathlib.Core.Path.{_≡_, refl, _∙_}
 use mathlib.Core.Bool.{Bool, true, false}
-use mathlib.Core.List.{List, [], _∷_, map}
+use mathlib.Core.List.{List, map}
 use borrow.Author.Tests.{ltb-true, ltb-false}
 use lib.Dec.{ltb, eqb}
-use lib.ListN.{length, getD, replicate, length-map, List·getD-eq-default, length-set}
+use lib.ListN.{length, getD, replicate, length-map, List·getD-eq-default}
 use Rattle.model.specs.declared.Monitor.{Monitor}
 use Rattle.model.specs.declared.Phy.{Phy}
-use Rattle.model.specs.declared.Shelf.{Shelf}
-use Rattle.model.specs.Bytes.{byte, dword}
-use Rattle.model.specs.Counting.{originateIf, addSaturating, counted, crosses, originateCrossings, addError, eventOn}
+use Rattle.model.specs.Bytes.{dword}
+use Rattle.model.specs.Counting.{originate, originateIf, addSaturating, counted, originateCrossings, addError, eventOn}
 use Rattle.model.specs.Counting.{changeOn}
-use Rattle.model.specs.Reply.{errorAt, monitorAt}
-use Rattle.model.specs.Shelf.{phyAt, phyWith, freshMonitor, freshPhy}
+use Rattle.model.specs.Fits.{BytesFit, MonitorFits, PhyFits}
+use Rattle.model.specs.Shelf.{phyWith, freshMonitor, freshPhy}
 use Rattle.model.specs.Sources.{peak}
 use Rattle.model.specs.Tests.{within}
 use Rattle.model.specs.Writes.{withoutErrors, controlled, setMonitor, setMonitors, setOn, clearMonitor, anyPeak}
 use Rattle.model.specs.Writes.{clearOn, configured}
-use Rattle.model.specs.Zone.{row}
 use Rattle.model.proofs.Laws.Places.{Each, change-at, map-at, replicate-each}
 use Rattle.model.proofs.Laws.Tests.{cond-both}
-use Rattle.model.proofs.Plain.Counting.{originate-range}
+use Rattle.model.proofs.Plain.Counting.{originate-range, add-error-length, originated, crossings-originate}
 use Rattle.model.proofs.Plain.Writes.{set-length, set-at}
-
--- ---- what it says
-
--- every byte of a frame, or of an identifier, fits 8 bits (past the end stands 0)
-abbrev pub BytesFit : List ℕ → Type 0
-BytesFit bytes = (i : ℕ) → byte bytes i ≤ 0xFF
-
--- "A monitor has an event source, a 32-bit value and a 32-bit threshold."
-pub record MonitorFits (m : Monitor) : Type 0 where
-  pub source : m .source ≤ 0xFF
-  pub value : m .value ≤ 0xFFFFFFFF
-  pub threshold : m .threshold ≤ 0xFFFFFFFF
-
--- four error counts and four monitors that fit, and three 16-bit broadcast counts
-pub record PhyFits (x : Phy) : Type 0 where
-  pub group : x .group ≤ 0xFFFFFFFF
-  pub errors-size : length (x .errors) ≡ 4
-  pub errors : (i : ℕ) → errorAt x i ≤ 0xFFFFFFFF
-  pub monitors-size : length (x .monitors) ≡ 4
-  pub monitors : (i : ℕ) → MonitorFits (monitorAt x i)
-  pub change0 : x .change0 ≤ 0xFFFF
-  pub expander1 : x .expander1 ≤ 0xFFFF
-  pub expander2 : x .expander2 ≤ 0xFFFF
-
--- what the types of the record say: the sizes of its arrays, and the widths of its numbers
-pub record Fits (s : Shelf) : Type 0 where
-  pub number : s .number ≤ 0xFFFFFFFF
-  pub phys-size : length (s .phys) ≡ 24
-  pub phys : (p : ℕ) → p < 24 → PhyFits (phyAt s p)
-  pub table-size : length (s .table) ≡ 32
-  pub table : (g : ℕ) → row (s .table) g ≤ 0xFFFFFFFF
-  pub identifier-size : length (s .identifier) ≡ 8
-  pub identifier : BytesFit (s .identifier)
-  pub changes : s .changes ≤ 0xFFFF
-  pub expander3 : s .expander3 ≤ 0xFFFF
-  pub ses0 : s .ses0 ≤ 0xFFFF
 
 -- ---- counts
 
@@ -71,12 +32,15 @@ originated-fits b count h = cond-both (λ n. n ≤ 0xFFFF) b _ _ (originate-rang
 pub originated-present : (b : Bool) (count : ℕ) → count ≤ 0xFFFF → 1 ≤ count → 1 ≤ originateIf b count
 originated-present b count h some = cond-both (λ n. 1 ≤ n) b _ _ (originate-range count h .0) some
 
+times-fit : (n count : ℕ) → count ≤ 0xFFFF → originated n count ≤ 0xFFFF
+times-fit zero count h = h
+times-fit (suc n) count h = times-fit n (originate count) (originate-range count h .1)
+
 crossings-fit : (source amount : ℕ) (ms : List Monitor) (count : ℕ) → count ≤ 0xFFFF
     → originateCrossings source amount ms count ≤ 0xFFFF
-unfolding originateCrossings
-crossings-fit source amount [] count h = h
-crossings-fit source amount (m ∷ ms) count h =
-    crossings-fit source amount ms _ (originated-fits (crosses m (counted source amount m .value)) count h)
+crossings-fit source amount ms count h =
+    let (k, _, is) = crossings-originate source amount ms count in
+    rw is (times-fit k count h)
 
 -- ---- the four error counts
 
@@ -88,12 +52,12 @@ no-errors-fit = (refl, replicate-each (λ n. n ≤ 0xFFFFFFFF) 0 4 (omega arith)
 
 add-error-fits : (source amount : ℕ) (errors : List ℕ) → ErrorsFit errors → ErrorsFit (addError source amount errors)
 unfolding addError
-add-error-fits source amount errors f =
-    cond-both ErrorsFit (within 0x01 0x04 source) _ _ (
-      rw length-set (f .0),
-      λ i. change-at (λ n. n ≤ 0xFFFFFFFF) 0 (λ n. addSaturating n amount) (λ n h. omega arith) errors _ i (f .1 i),
-    )
-    f
+add-error-fits source amount errors f = (
+  add-error-length source amount errors ∙ f .0,
+  cond-both (Each (λ n. n ≤ 0xFFFFFFFF) 0) (within 0x01 0x04 source) _ _
+      (λ i. change-at (λ n. n ≤ 0xFFFFFFFF) 0 (λ n. addSaturating n amount) (λ n h. omega arith) errors _ i (f .1 i))
+      (f .1),
+)
 
 -- ---- the four monitors
 
@@ -192,13 +156,19 @@ change-keeps enabled x =
 without-errors-keeps : (x : Phy) → FitsOn x (withoutErrors x)
 without-errors-keeps x = fits-with x (λ f. no-errors-fit) (λ f. f) (λ f. f) (λ f. f) (λ f. f)
 
-pub control-keeps : (operation : ℕ) (x : Phy) → FitsOn x (controlled operation x)
+-- what holds of each thing that a 91h may make of the phy
+controlled-all : (P : Phy → Type 0) (operation : ℕ) (x : Phy) → P x → ((enabled : Bool) → P (changeOn enabled x))
+    → P (withoutErrors x) → P (controlled operation x)
 unfolding controlled
+controlled-all P operation x none change clear =
+    cond-both P (eqb operation 0x01) _ _ (change true)
+    (cond-both P (eqb operation 0x03) _ _ (cond-both P (x .enabled) _ _ (change false) none)
+    (cond-both P (eqb operation 0x05) _ _ clear
+    none))
+
+pub control-keeps : (operation : ℕ) (x : Phy) → FitsOn x (controlled operation x)
 control-keeps operation x =
-    cond-both (FitsOn x) (eqb operation 0x01) _ _ (change-keeps true x)
-    (cond-both (FitsOn x) (eqb operation 0x03) _ _ (cond-both (FitsOn x) (x .enabled) _ _ (change-keeps false x) (λ f. f))
-    (cond-both (FitsOn x) (eqb operation 0x05) _ _ (without-errors-keeps x)
-    (λ f. f)))
+    controlled-all (FitsOn x) operation x (λ f. f) (λ enabled. change-keeps enabled x) (without-errors-keeps x)
 
 set-keeps : (frame : List ℕ) → BytesFit frame → (d : ℕ) (x : Phy) → FitsOn x (setOn frame d x)
 unfolding setOn
@@ -232,3 +202,27 @@ fresh-fits g h =
       expander1 = omega arith;
       expander2 = omega arith;
     }
+
+-- ---- the sizes alone, for which no width is asked
+
+-- four error counts and four monitors
+abbrev pub Four : Phy → Type 0
+Four x = (length (x .errors) ≡ 4) × (length (x .monitors) ≡ 4)
+
+pub event-four : (source amount : ℕ) (x : Phy) → Four x → Four (eventOn source amount x)
+unfolding eventOn
+event-four source amount x f =
+    (add-error-length source amount (x .errors) ∙ f .0, length-map (x .monitors) (counted source amount) ∙ f .1)
+
+pub change-four : (enabled : Bool) (x : Phy) → Four x → Four (changeOn enabled x)
+unfolding changeOn
+change-four enabled x f = f
+
+pub control-four : (operation : ℕ) (x : Phy) → Four x → Four (controlled operation x)
+control-four operation x f = controlled-all Four operation x f (λ enabled. change-four enabled x f) (refl, f .1)
+
+pub configure-four : (frame : List ℕ) (d : ℕ) (clear : Bool) (x : Phy) → Four x → Four (configured frame d clear x)
+unfolding configured setOn clearOn
+configure-four frame d clear x f =
+    let set : length (setMonitors frame d 0 (x .monitors)) ≡ 4 = set-length frame d 0 (x .monitors) ∙ f .1 in
+    cond-both Four clear _ _ (f .0, length-map (setMonitors frame d 0 (x .monitors)) clearMonitor ∙ set) (f .0, set)

@@ -21,6 +21,7 @@ use Rattle.model.specs.declared.Request.the-variants.{ReportGeneral, Rep
 use Rattle.model.specs.declared.Request.the-variants.{ReportPhyErrorLog, ReportPhyEvent, PhyControl, ConfigurePhyEvent}
 use Rattle.model.specs.declared.Shelf.{Shelf}
 use Rattle.model.specs.Bytes.{byte, one}
+use Rattle.model.specs.Fits.{BytesFit, Fits}
 use Rattle.model.specs.Reply.{failed, response, changeCount, reportGeneral, reportManufacturer, reportPhyErrorLog}
 use Rattle.model.specs.Reply.{monitorAt, reportPhyEvent, Broadcast, listed, deviceListed, phyListed, seenListed}
 use Rattle.model.specs.Reply.{broadcasts, broadcastBytes, reportBroadcast, respond}
@@ -29,7 +30,6 @@ use Rattle.model.specs.Results.{resultCode}
 use Rattle.model.specs.Server.{Sends, handle}
 use Rattle.model.specs.Shelf.{phyNumber, noPhy, phyAt, freshMonitor}
 use Rattle.model.specs.Zone.{row, rowReaches}
-use Rattle.model.proofs.Demands.Fits.{BytesFit, Fits}
 use Rattle.model.proofs.Laws.Handled.{verdict, sent-all, accepted-decided}
 use Rattle.model.proofs.Laws.Join.{join-few}
 use Rattle.model.proofs.Laws.Places.{All, all-each, each-all, cut-each, sets-each, sets-before, replicate-each}

@@ -1,8 +1,9 @@
 -- A start gives a shelf whose numbers fit their widths, with 1 to 24 phys, groups up to 31, a legal table and a change count that is not
--- 0000h, and every operation keeps that, where what they are given has its sizes and widths. Assumes nothing.
+-- 0000h, and every operation keeps that, where what they are given has its sizes and widths. That a shelf's arrays have their places holds
+-- whatever they are given. Assumes nothing.
 use Prim.Native.Nat.{ℕ, _≤_, _<_, zero-le}
 use native.Mathlib.Omega.{arith}
-use mathlib.Core.Path.{_≡_, _∙_}
+use mathlib.Core.Path.{_≡_, subst, _∙_}
 use mathlib.Core.Bool.{Bool}
 use mathlib.Core.List.{List, [], _∷_}
 use borrow.Author.Tests.{ltb-true}
@@ -12,47 +13,20 @@ use Rattle.model.specs.declared.Phy.{Phy}
 use Rattle.model.specs.declared.Shelf.{Shelf}
 use Rattle.model.specs.declared.Taken.the-variants.{Done}
 use Rattle.model.specs.Counting.{originateIf}
+use Rattle.model.specs.Fits.{Fits, Placed, StartFits, OperationFits, AllFit, Sound}
 use Rattle.model.specs.Reach.{reaches}
 use Rattle.model.specs.Runs.{Operation, Ask, Event, LinkChange, ReducedFunctionality, Ses, QueryReach, next, after}
-use Rattle.model.specs.Shelf.{phyAt, freshPhy, startGroup, freshShelf, startTaken, start}
-use Rattle.model.specs.Zone.{row}
-use Rattle.model.proofs.Demands.Fits.{BytesFit, Fits, FitsOn, fresh-fits}
+use Rattle.model.specs.Runs.{Started}
+use Rattle.model.specs.Shelf.{exists, phyAt, startGroup, freshShelf, noShelf, startTaken, start}
+use Rattle.model.proofs.Demands.Fits.{FitsOn, fresh-fits, Four, event-four, change-four, control-four, configure-four}
 use Rattle.model.proofs.Demands.Fits.{originated-fits, originated-present, event-keeps, change-keeps, control-keeps, configure-keeps}
-use Rattle.model.proofs.Laws.Join.{join-length}
-use Rattle.model.proofs.Laws.Places.{All}
+use Rattle.model.proofs.Laws.Checks.{every-outcome}
 use Rattle.model.proofs.Laws.Steps.{Step, KeptBy, next-step, step-fixed, step-phys, DeviceCounts, step-counts, SameZones, next-zones}
 use Rattle.model.proofs.Laws.Tests.{cond-by}
-use Rattle.model.proofs.Plain.Reach.{reaches-nothing}
+use Rattle.model.proofs.Plain.Reach.{exists-iff, reaches-nothing}
 use Rattle.model.proofs.Plain.Shelf.{SameFixed}
-use Rattle.model.proofs.Plain.Start.{Startable, start-done, fresh-phys}
-use Rattle.model.proofs.Plain.Zone.{LegalTable}
-
--- ---- what it says
-
--- The invariant: every number fits, "1 to 24 phys", "Zone groups 0 to 31", the table is legal, and 0000h, "the forcing value", is not the
--- present count.
-pub record Sound (s : Shelf) : Type 0 where
-  pub fits : Fits s
-  pub number : (1 ≤ s .number) × (s .number ≤ 24)
-  pub groups : (p : ℕ) → p < 24 → phyAt s p .group ≤ 31
-  pub legal : LegalTable (s .table)
-  pub present : 1 ≤ s .changes
-
--- the sizes and widths of the table and the identifier that a start is given
-pub record StartFits (table identifier : List ℕ) : Type 0 where
-  pub table-size : length table ≡ 32
-  pub table-fits : (g : ℕ) → row table g ≤ 0xFFFFFFFF
-  pub identifier-size : length identifier ≡ 8
-  pub identifier-fits : BytesFit identifier
-
--- the widths of what an operation is given: a frame's bytes, and "a 32-bit amount" (other numbers are compared, never kept)
-abbrev pub OperationFits : Operation → Type 0
-OperationFits (Ask g frame out) = BytesFit frame
-OperationFits (Event p source amount) = amount ≤ 0xFFFFFFFF
-OperationFits (LinkChange p) = Unit {0}
-OperationFits ReducedFunctionality = Unit {0}
-OperationFits Ses = Unit {0}
-OperationFits (QueryReach g) = Unit {0}
+use Rattle.model.proofs.Plain.Start.{Startable, start-done, fresh-size, fresh-phys}
+use Rattle.model.proofs.Plain.Zone.{legal-table}
 
 -- ---- every operation keeps it
 
@@ -110,10 +84,6 @@ next-sound s o fit sound =
       present = step-present s (next s o) step (sound .fits) (sound .present);
     }
 
--- a sequence, all of whose operations fit
-abbrev pub AllFit : List Operation → Type 0
-AllFit operations = All OperationFits operations
-
 pub after-sound : (s : Shelf) (operations : List Operation) → AllFit operations → Sound s → Sound (after s operations)
 unfolding after
 after-sound s [] fit sound = sound
@@ -135,7 +105,7 @@ fresh-sound n groups table identifier fit can =
       fits =
           record {
             number = omega arith;
-            phys-size = join-length 24 (λ p. freshPhy (startGroup n groups p));
+            phys-size = fresh-size n groups;
             phys = λ p below.
                 rw (fresh-phys n groups table identifier p below) (fresh-fits (startGroup n groups p) (group p));
             table-size = fit .table-size;
@@ -148,7 +118,7 @@ fresh-sound n groups table identifier fit can =
           };
       number = can .number;
       groups = λ p below. rw (fresh-phys n groups table identifier p below) (group p);
-      legal = can .legal;
+      legal = legal-table table .1 (can .legal);
       present = omega arith;
     }
 
@@ -158,7 +128,79 @@ unfolding start
 start-sound n groups table identifier fit done =
     rw done (fresh-sound n groups table identifier fit (start-done n groups table .0 done))
 
+-- so a started shelf has it, after any operations
+pub started-sound : (s : Shelf) (started : Started s) → StartFits (started .table) (started .identifier)
+    → AllFit (started .operations) → Sound s
+started-sound s started fit all =
+    subst Sound (started .now)
+    (after-sound _ (started .operations) all
+    (start-sound (started .number) (started .groups) (started .table) (started .identifier) fit (started .done)))
+
 -- ---- and in it a source group above 31 reaches nothing
 
 pub above-31 : (s : Shelf) (g p : ℕ) → Fits s → 31 < g → T (reaches s g p) → ⊥
 above-31 s g p fits above = reaches-nothing s g p (omega arith)
+
+-- ---- The sizes alone: they are there after every start and every operation, whatever these are given.
+
+abbrev KeepsFour : (Phy → Phy) → (Phy → Bool) → Type 0
+KeepsFour f moves = (x : Phy) → Four x → Four (f x)
+
+four-kept : (operation : Operation) → KeptBy KeepsFour operation
+four-kept (Ask g frame out) = (control-four, configure-four frame)
+four-kept (Event p source amount) = event-four source amount
+four-kept (LinkChange p) = λ x. change-four (x .enabled) x
+four-kept ReducedFunctionality = tt
+four-kept Ses = tt
+four-kept (QueryReach g) = tt
+
+pub next-placed : (s : Shelf) (operation : Operation) → Placed s → Placed (next s operation)
+next-placed s operation placed =
+    let step : Step KeepsFour s (next s operation) = next-step KeepsFour s operation (four-kept operation) in
+    let four : (p : ℕ) → Four (phyAt s p) → Four (phyAt (next s operation) p) =
+    step-phys KeepsFour (λ x y. Four x → Four y) (λ x f. f) (λ h moves keeps x y kept f. keeps y (kept f)) s (next s operation) step in
+    record {
+      phys = step-counts KeepsFour s (next s operation) step .size ∙ placed .phys;
+      errors = λ p below. four p (placed .errors p below, placed .monitors p below) .0;
+      monitors = λ p below. four p (placed .errors p below, placed .monitors p below) .1;
+    }
+
+pub after-placed : (s : Shelf) (operations : List Operation) → Placed s → Placed (after s operations)
+unfolding after
+after-placed s [] placed = placed
+after-placed s (operation ∷ operations) placed = after-placed (next s operation) operations (next-placed s operation placed)
+
+fresh-placed : (n : ℕ) (groups table identifier : List ℕ) → Placed (freshShelf n groups table identifier)
+unfolding freshShelf
+fresh-placed n groups table identifier =
+    record {
+      phys = fresh-size n groups;
+      errors = λ p below. rw (fresh-phys n groups table identifier p below);
+      monitors = λ p below. rw (fresh-phys n groups table identifier p below);
+    }
+
+pub start-placed : (n : ℕ) (groups table identifier : List ℕ) → Placed (start n groups table identifier .shelf)
+unfolding start noShelf
+start-placed n groups table identifier =
+    every-outcome Placed (startTaken n groups table) noShelf _ (fresh-placed _ _ _ _) (λ done. fresh-placed n groups table identifier)
+
+-- so a started shelf has them, after any operations
+pub started-placed : (s : Shelf) → Started s → Placed s
+started-placed s started =
+    subst Placed (started .now)
+    (after-placed _ (started .operations) (start-placed (started .number) (started .groups) (started .table) (started .identifier)))
+
+-- and every shelf whose numbers fit
+pub fits-placed : (s : Shelf) → Fits s → Placed s
+fits-placed s f =
+    record {
+      phys = f .phys-size;
+      errors = λ p below. f .phys p below .errors-size;
+      monitors = λ p below. f .phys p below .monitors-size;
+    }
+
+-- there a phy that exists stands in the array, with its four error counts and its four monitors
+pub phy-placed : (s : Shelf) (p : ℕ) → Placed s → T (exists s p) → (p < length (s .phys)) × Four (phyAt s p)
+phy-placed s p placed there =
+    let (_, below) = exists-iff s p .0 there in
+    (omega arith, (placed .errors p below, placed .monitors p below))

@@ -1,8 +1,7 @@
 -- Demand 2, the writes: "A write that draws no house refusal takes its full effect exactly when its length, count, phy, zone and contents
 -- all pass, and otherwise has no effect at all." And reads never change the shelf. Assumes nothing.
-use Prim.Native.Nat.{ℕ, _+_, _*_, _≤_, _<_}
+use Prim.Native.Nat.{ℕ, _+_, _*_, _≤_}
 use native.Mathlib.Nat.{pos-of-ne-zero}
-use native.Mathlib.Omega.{arith}
 use mathlib.Core.Path.{_≡_, refl, subst⁻¹}
 use mathlib.Core.Logic.{_↔_, Iff·trans, Iff·and}
 use mathlib.Core.List.{List, [], _∷_, List·Memᴰ, List·Memᴰ·head, List·Memᴰ·tail}
@@ -10,19 +9,21 @@ use lib.Dec.{T}
 use lib.ListN.{length}
 use Rattle.model.specs.declared.Shelf.{Shelf}
 use Rattle.model.specs.Bytes.{byte, word}
+use Rattle.model.specs.Fits.{Placed}
 use Rattle.model.specs.Reach.{reaches}
 use Rattle.model.specs.Request.{functionOf, known, lengthRight, asked}
 use Rattle.model.specs.Results.{countRight}
+use Rattle.model.specs.Runs.{Started}
 use Rattle.model.specs.Server.{served, lentAfter}
 use Rattle.model.specs.Shelf.{exists}
 use Rattle.model.specs.Writes.{effect}
 use Rattle.model.proofs.Demands.Effects.{Controlled, controlled-effect, Configured, configured-effect}
+use Rattle.model.proofs.Demands.Invariant.{started-placed}
 use Rattle.model.proofs.Demands.Results.{Of, SourcesAllowed, NotRefused, checks, verdict-accepted, result-byte}
 use Rattle.model.proofs.Demands.Results.{sources-iff, failed-result, granted-result}
 use Rattle.model.proofs.Laws.Drawn.{AllPass}
 use Rattle.model.proofs.Laws.Handled.{handled-all, accepted-decided}
 use Rattle.model.proofs.Laws.Tests.{leb-iff}
-use Rattle.model.proofs.Plain.Reach.{exists-iff}
 use Rattle.model.proofs.Plain.Request.{asked-91, asked-93, by-function, right-length-91, right-length-93}
 use Rattle.model.proofs.Plain.Results.{count-right, knownOperations, known-operation}
 
@@ -137,33 +138,32 @@ full-or-none s g frame out {Full = Full} answered passes full =
           failed-result s g frame out (byte (lentAfter s g frame out) 2) answered refl some .stays;
     }
 
--- The full effect is stated of a shelf whose array of phys has its 24 places, as every record has. That there is no effect needs no such
--- condition.
-abbrev pub Placed : Shelf → Type 0
-Placed s = length (s .phys) ≡ 24
+-- of every shelf whose arrays have their places, as every record's have (that a failed write leaves any shelf at all is `failed-result`)
+module _ (s : Shelf) (placed : Placed s) (g : ℕ) (frame out : List ℕ) (answered : NotRefused s g frame out) where
+  pub placed-control-write : functionOf frame ≡ 0x91
+      → FullOrNone (ControlPasses s g frame) (Controlled s (byte frame 9) (byte frame 10)) s (served s g frame out .shelf)
+  placed-control-write e =
+      full-or-none s g frame out answered (control-accepted s g frame out answered e)
+      (λ w.
+      rw (asked-91 frame e)
+      (controlled-effect s frame (word frame 4) (byte frame 9) (byte frame 10) placed (w .phy)))
 
-phy-placed : (s : Shelf) (p : ℕ) → Placed s → T (exists s p) → p < length (s .phys)
-phy-placed s p placed there = omega (arith, exists-iff s p .0 there)
+  pub placed-configure-write : functionOf frame ≡ 0x93
+      → FullOrNone (ConfigurePasses s g frame) (Configured s (byte frame 9) frame) s (served s g frame out .shelf)
+  placed-configure-write e =
+      full-or-none s g frame out answered (configure-accepted s g frame out answered e)
+      (λ w. rw (asked-93 frame e) (configured-effect s frame (word frame 4) (byte frame 9) placed (w .phy)))
 
-pub control-write : (s : Shelf) (g : ℕ) (frame out : List ℕ) → NotRefused s g frame out → functionOf frame ≡ 0x91
-    → FullOrNone (ControlPasses s g frame) (λ t. Placed s → Controlled s (byte frame 9) (byte frame 10) t)
-    s
-    (served s g frame out .shelf)
-control-write s g frame out answered e =
-    full-or-none s g frame out answered (control-accepted s g frame out answered e)
-    (λ w placed.
-    rw (asked-91 frame e)
-    (controlled-effect s frame (word frame 4) (byte frame 9) (byte frame 10) (phy-placed s (byte frame 9) placed (w .phy))))
+-- For every started shelf, after any operations, and every request with function 91h or 93h that draws no house refusal.
+pub control-write : (s : Shelf) → Started s → (g : ℕ) (frame out : List ℕ) → NotRefused s g frame out
+    → functionOf frame ≡ 0x91
+    → FullOrNone (ControlPasses s g frame) (Controlled s (byte frame 9) (byte frame 10)) s (served s g frame out .shelf)
+control-write s started = placed-control-write s (started-placed s started)
 
-pub configure-write : (s : Shelf) (g : ℕ) (frame out : List ℕ) → NotRefused s g frame out → functionOf frame ≡ 0x93
-    → FullOrNone (ConfigurePasses s g frame) (λ t. Placed s → Configured s (byte frame 9) frame t)
-    s
-    (served s g frame out .shelf)
-configure-write s g frame out answered e =
-    full-or-none s g frame out answered (configure-accepted s g frame out answered e)
-    (λ w placed.
-    rw (asked-93 frame e)
-    (configured-effect s frame (word frame 4) (byte frame 9) (phy-placed s (byte frame 9) placed (w .phy))))
+pub configure-write : (s : Shelf) → Started s → (g : ℕ) (frame out : List ℕ) → NotRefused s g frame out
+    → functionOf frame ≡ 0x93
+    → FullOrNone (ConfigurePasses s g frame) (Configured s (byte frame 9) frame) s (served s g frame out .shelf)
+configure-write s started = placed-configure-write s (started-placed s started)
 
 -- ---- reads: every request but 91h and 93h
 

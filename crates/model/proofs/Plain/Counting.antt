@@ -1,15 +1,19 @@
--- Originating, the two additions and the crossing of a threshold, in plain logic. Assumes nothing.
-use Prim.Native.Nat.{ℕ, _+_, _-_, _^_, _≤_, _<_}
+-- Originating, the two additions, the crossing of a threshold and how many monitors cross theirs, in plain logic. Assumes nothing.
+use Prim.Native.Nat.{ℕ, zero, suc, _+_, _-_, _^_, _≤_, _<_}
 use native.Mathlib.Nat.{mod-eq-of-lt, eq-or-lt-of-le}
 use native.Mathlib.Omega.{arith}
 use mathlib.Core.Path.{_≡_, refl, ap, _∙_}
-use mathlib.Core.Logic.{_↔_, ⊎-elim, Iff·rfl}
+use mathlib.Core.Logic.{_↔_, ⊎-elim, Iff·rfl, Iff·trans}
+use mathlib.Core.Bool.{Bool, true, false}
+use mathlib.Core.List.{List, [], _∷_, map}
 use borrow.Author.Tests.{ne-eqb}
 use lib.Dec.{T, leb, ltb}
+use lib.ListN.{length, length-set}
 use Rattle.model.specs.declared.Monitor.{Monitor}
-use Rattle.model.specs.Counting.{originate, addWrapping, addSaturating, crosses}
+use Rattle.model.specs.Counting.{originate, originateIf, addWrapping, addSaturating, counted, crosses, originateCrossings, addError}
 use Rattle.model.specs.Sources.{peak}
-use Rattle.model.proofs.Laws.Tests.{all-three-iff, leb-iff, ltb-iff}
+use Rattle.model.specs.Tests.{within}
+use Rattle.model.proofs.Laws.Tests.{all-three-iff, leb-iff, ltb-iff, cond-both}
 
 -- "Originating adds one to that count; FFFFh goes to 0001h."
 pub originate-adds : (count : ℕ) → count < 0xFFFF → originate count ≡ count + 1
@@ -45,6 +49,12 @@ pub saturating-stops : (count amount : ℕ) → 0xFFFFFFFF ≤ count + amount
     → addSaturating count amount ≡ 0xFFFFFFFF
 saturating-stops count amount h = omega arith
 
+-- an event report adds in a place, and adds or drops none
+pub add-error-length : (source amount : ℕ) (errors : List ℕ) → length (addError source amount errors) ≡ length errors
+unfolding addError
+add-error-length source amount errors =
+    cond-both (λ (es : List ℕ). length es ≡ length errors) (within 0x01 0x04 source) _ _ (rw length-set) refl
+
 -- "A peak that a report takes from below its threshold to it or above"
 pub crosses-iff : (before : Monitor) (after : ℕ)
     → T (crosses before after)
@@ -59,3 +69,58 @@ crosses-iff before after =
 -- "Threshold 0 thus never does."
 pub threshold-0 : (before : Monitor) (after : ℕ) → before .threshold ≡ 0 → T (crosses before after) → ⊥
 threshold-0 before after e t = let h = crosses-iff before after .0 t in omega arith
+
+-- ---- ".. originates Expander 1h, once per monitor"
+
+-- A monitor that was old is new: "A peak that a report takes from below its threshold to it or above".
+pub record Crossed (old new : Monitor) : Type 0 where
+  pub on-peak : T (peak (old .source))
+  pub below : old .value < old .threshold
+  pub reached : old .threshold ≤ new .value
+
+crossed-iff : (old new : Monitor) → T (crosses old (new .value)) ↔ Crossed old new
+crossed-iff old new =
+    Iff·trans (crosses-iff old (new .value)) (
+      λ (top, low, high). record { on-peak = top; below = low; reached = high },
+      λ c. (c .on-peak, c .below, c .reached),
+    )
+
+-- how many of some monitors have crossed, from what they were and what they are
+pub data Crossings : List Monitor → List Monitor → ℕ → Type 0 where
+  NoMore : Crossings [] [] 0
+  Crosses : {m n : Monitor} {ms ns : List Monitor} {k : ℕ} → Crossed m n → Crossings ms ns k
+      → Crossings (m ∷ ms) (n ∷ ns) (suc k)
+  CrossesNot : {m n : Monitor} {ms ns : List Monitor} {k : ℕ} → (Crossed m n → ⊥) → Crossings ms ns k
+      → Crossings (m ∷ ms) (n ∷ ns) k
+
+-- that is settled
+pub crossings-one : {ms ns : List Monitor} {j k : ℕ} → Crossings ms ns j → Crossings ms ns k → j ≡ k
+crossings-one NoMore NoMore = refl
+crossings-one (Crosses c a) (Crosses d b) = ap suc (crossings-one a b)
+crossings-one (Crosses c a) (CrossesNot d b) = absurd (d c)
+crossings-one (CrossesNot c a) (Crosses d b) = absurd (c d)
+crossings-one (CrossesNot c a) (CrossesNot d b) = crossings-one a b
+
+-- a count that is originated n times
+abbrev pub originated : ℕ → ℕ → ℕ
+originated zero count = count
+originated (suc n) count = originated n (originate count)
+
+-- a count that was originated once for each monitor that crossed
+abbrev pub OncePerCrossing : List Monitor → List Monitor → ℕ → ℕ → Type 0
+OncePerCrossing old new before after = (k : ℕ) × Crossings old new k × (after ≡ originated k before)
+
+pub crossings-originate : (source amount : ℕ) (ms : List Monitor) (count : ℕ)
+    → OncePerCrossing ms (map (counted source amount) ms) count (originateCrossings source amount ms count)
+unfolding originateCrossings
+crossings-originate source amount [] count = (0, NoMore, refl)
+crossings-originate source amount (m ∷ ms) count =
+    go (crosses m (new .value)) refl (crossings-originate source amount ms (originateIf (crosses m (new .value)) count))
+  where
+    new : Monitor
+    new = counted source amount m
+
+    go : (b : Bool) → crosses m (new .value) ≡ b → {ns : List Monitor} {after : ℕ}
+        → OncePerCrossing ms ns (originateIf b count) after → OncePerCrossing (m ∷ ms) (new ∷ ns) count after
+    go true e (k, some, is) = (suc k, Crosses (crossed-iff m new .0 (rw e tt)) some, is)
+    go false e (k, some, is) = (k, CrossesNot (λ c. rw e at (crossed-iff m new .1 c)) some, is)

@@ -6,14 +6,14 @@ use mathlib.Core.Logic.{_↔_, Iff·trans}
 use mathlib.Core.Bool.{Bool, not}
 use mathlib.Core.List.{List, [], _∷_}
 use lib.Dec.{T}
-use lib.ListN.{getD}
+use lib.ListN.{length, getD}
 use Rattle.model.specs.declared.Taken.the-variants.{Done}
 use Rattle.model.specs.House.{takenNumber}
-use Rattle.model.specs.Shelf.{phyAt, noPhy, freshPhy, startGroup, freshShelf, groupsFit, startTaken}
+use Rattle.model.specs.Shelf.{phyAt, noPhy, freshPhy, startGroup, freshPhys, freshShelf, groupsFit, startTaken}
 use Rattle.model.specs.Tests.{within}
 use Rattle.model.specs.Zone.{zoneGroup, legalTable}
 use Rattle.model.proofs.Laws.Checks.{done-iff}
-use Rattle.model.proofs.Laws.Join.{join-at}
+use Rattle.model.proofs.Laws.Join.{join-length, join-at}
 use Rattle.model.proofs.Laws.Lowest.{firstGiven, none-given}
 use Rattle.model.proofs.Laws.Tests.{unless-iff, within-iff, leb-iff, allBelow-iff, check-map}
 use Rattle.model.proofs.Plain.Zone.{LegalTable, legal-table}
@@ -52,7 +52,11 @@ start-done n groups table =
       λ r. (number .1 (r .number), (fit .1 (r .groups-fit), (legal .1 (r .legal), tt))),
     )))
 
--- the device: phy p has the group that was given for it, and is fresh; past the phy number the group is 0
+-- the device: it has 24 places for phys
+pub fresh-size : (n : ℕ) (groups : List ℕ) → length (freshPhys n groups) ≡ 24
+fresh-size n groups = join-length 24 (λ p. freshPhy (startGroup n groups p))
+
+-- phy p has the group that was given for it, and is fresh; past the phy number the group is 0
 pub fresh-phys : (n : ℕ) (groups table identifier : List ℕ) (p : ℕ) → p < 24
     → phyAt (freshShelf n groups table identifier) p ≡ freshPhy (startGroup n groups p)
 unfolding freshShelf

@@ -17,6 +17,8 @@ peaks =
     (watching ∷ Event 0 0x2D 9 ∷ Event 0 0x2D 10 ∷ Event 0 0x2D 12 ∷ Event 0 0x2D 5 ∷ [])
     (Look (λ s. counts0 s ++ monitors0 s))
     (Numbers (0 ∷ 2 ∷ 0 ∷ 0x0001 ∷ 0x2D ∷ 12 ∷ 10 ∷ 0x2D ∷ 12 ∷ 11 ∷ 0x02 ∷ 0 ∷ 5 ∷ 0x00 ∷ 0 ∷ 0 ∷ []))
+    -- "once per monitor": a report that takes two monitors over their thresholds originates twice
+    ∷ on 0 shelfW (watching ∷ Event 0 0x2D 12 ∷ []) (Look counts0) (Numbers (0 ∷ 2 ∷ 0 ∷ 0x0001 ∷ []))
     -- "Threshold 0 thus never does"; a counting monitor never does
     ∷ on 0 shelfW
     (sent 8 (configureFrame 0x04 0x01 0x00 0 1 (watch 0x2D 0)) ∷ Event 0 0x2D 9 ∷ [])
