@@ -13,11 +13,12 @@ use lib.Seq.{drop-cons, drop-length, drop-drop, take-at, drop-at, getD-drop}
 use Rattle.model.specs.declared.Phy.{Phy}
 use Rattle.model.specs.declared.Shelf.{Shelf}
 use Rattle.model.specs.Bytes.{byte}
+use Rattle.model.specs.Fits.{MonitorFits, PhyFits, Fits}
 use Rattle.model.specs.Reply.{monitorAt}
 use Rattle.model.specs.Shelf.{noPhy, freshMonitor}
 use Rattle.model.specs.Zone.{row}
-use Rattle.model.proofs.Demands.Fits.{Fits, PhyFits, MonitorFits}
 use Rattle.model.proofs.Laws.Places.{All, all-each}
+use Rattle.words.specs.Memory.{WordsFit, Memory}
 use Rattle.words.specs.Words.{wordAt, lowSet, monitorOf, phyOf, phyOver, physOf, physOver, shelfOf, laidOver}
 use Rattle.words.proofs.Reading.{phys-size, phy-there, row-there, row-past}
 use Rattle.words.proofs.Laying.{block-size}
@@ -112,15 +113,6 @@ module _ (ws : List ℕ) where
 
 -- ---- Any words stand for a shelf whose numbers fit
 
--- a word has 32 bits (past the end stands 0)
-abbrev pub WordsFit : List ℕ → Type 0
-WordsFit ws = (i : ℕ) → wordAt ws i ≤ 0xFFFFFFFF
-
--- what the type `[u32; 548]` says of the firmware's words
-pub record Memory (ws : List ℕ) : Type 0 where
-  pub size : length ws ≡ 548
-  pub words : WordsFit ws
-
 module _ (ws : List ℕ) (fit : WordsFit ws) where
   phy-fits : (at : ℕ) → PhyFits (phyOf ws at)
   unfolding phyOf
@@ -147,7 +139,7 @@ module _ (ws : List ℕ) (fit : WordsFit ws) where
   row-fits g true e = rw (row-there ws g (ltb-true g 32 e)) (fit (12 + g))
   row-fits g false e = rw (row-past ws g (ltb-false g 32 e)) (omega arith)
 
--- The firmware may keep what it likes there, so long as it is 548 words: they stand for a shelf of the right sizes and widths.
+-- The caller may keep what he likes there, so long as it is 548 words: they stand for a shelf of the right sizes and widths.
 pub stands-fit : (ws : List ℕ) → Memory ws → Fits (shelfOf ws)
 unfolding shelfOf
 stands-fit ws memory =

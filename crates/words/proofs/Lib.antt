@@ -7,7 +7,6 @@ pub mod Whole
 -- words and shelf fit together, and so after every call
 pub mod Lens
 pub mod Steps
-pub mod InMemory
 -- the layout on numbers
 pub mod Vectors
 -- every public promise settles its outcome

@@ -8,7 +8,7 @@ use Rattle.words.proofs.read.row
 use Rattle.words.proofs.read.identifier
 use Rattle.words.proofs.store.put
 use Rattle.words.proofs.store.put_device
-use Rattle.words.proofs.store.lay
+use Rattle.words.proofs.fresh.lay_fresh
 
 pub low16-settled : Settled low16.Kinds.ps low16.Kinds.r low16.Reads.Pre low16.Reads.Post
 low16-settled = value-settles _ _ _ (λ κs a x y. refl)
@@ -36,9 +36,9 @@ put-device-settled = record {
   same-lent = λ κs a x y. ap (λ words. (words, (tt, (tt, tt)))) (x .promised ∙ sym (y .promised));
 }
 
-pub lay-settled : Settled lay.Kinds.ps lay.Kinds.r lay.Reads.Pre lay.Reads.Post
-lay-settled = record {
+pub lay-fresh-settled : Settled lay_fresh.Kinds.ps lay_fresh.Kinds.r lay_fresh.Reads.Pre lay_fresh.Reads.Post
+lay-fresh-settled = record {
   asks-nothing = λ κs a. tt;
   same-result = λ κs a x y. refl;
-  same-lent = λ κs a x y. ap (λ words. (words, (tt, tt))) (x .promised ∙ sym (y .promised));
+  same-lent = λ κs a x y. ap (λ words. (words, (tt, (tt, (tt, (tt, tt)))))) (x .promised ∙ sym (y .promised));
 }

@@ -1,28 +1,27 @@
--- After every call the firmware's words stand for the model's next shelf, and after a run of calls for that of the model's run. A call lays
--- the shelf that comes of it over the words that it found. Nothing is asked but what the types say: words of 32 bits, bytes, 32-bit amounts.
--- Assumes nothing.
+-- After every call the words stand for the model's next shelf, and so after a start. A call lays the shelf that comes of it over
+-- the words that it found. Nothing is asked but what the types say: words of 32 bits, bytes, 32-bit amounts. Assumes nothing.
 use Prim.Native.Nat.{ℕ, zero, suc, _+_, _*_, _-_, _≤_, _<_}
 use native.Mathlib.Omega.{arith}
-use mathlib.Core.Path.{_≡_, refl, ap, _∙_}
+use mathlib.Core.Path.{_≡_, refl}
 use mathlib.Core.Bool.{Bool, true, false, cond}
 use mathlib.Core.List.{List, [], _∷_, _++_}
 use lib.ListN.{length, getD, take, drop, replicate, length-append, length-drop}
 use lib.Seq.{getD-drop}
+use Rattle.model.specs.declared.Outcome.{Outcome}
 use Rattle.model.specs.declared.Phy.{Phy}
 use Rattle.model.specs.declared.Shelf.{Shelf}
 use Rattle.model.specs.declared.Taken.the-variants.{Done}
 use Rattle.model.specs.Bytes.{byte}
+use Rattle.model.specs.Fits.{MonitorFits, PhyFits, Fits, StartFits, OperationFits}
 use Rattle.model.specs.Reply.{monitorAt}
-use Rattle.model.specs.Reports.{event, linkChange, reducedFunctionality, sesNotice}
-use Rattle.model.specs.Runs.{Operation, Ask, Event, LinkChange, ReducedFunctionality, Ses, next, after}
-use Rattle.model.specs.Server.{served}
+use Rattle.model.specs.Runs.{Operation, next}
 use Rattle.model.specs.Shelf.{noPhy, startTaken, start}
-use Rattle.model.proofs.Demands.Fits.{BytesFit, Fits, PhyFits, MonitorFits}
-use Rattle.model.proofs.Demands.Invariant.{OperationFits, AllFit, StartFits, next-fits, start-sound}
-use Rattle.model.proofs.Laws.Places.{All, Each, all-each, cut-each}
-use Rattle.words.specs.Words.{wordAt, lowSet, countsOver, phyOver, physOver, shelfOf, laidOver, wordsOf}
+use Rattle.model.proofs.Demands.Invariant.{next-fits, start-sound}
+use Rattle.model.proofs.Laws.Places.{All, Each, all-each, cut-each, replicate-each}
+use Rattle.words.specs.Memory.{WordsFit, Memory}
+use Rattle.words.specs.Words.{wordAt, lowSet, countsOver, phyOver, physOver, shelfOf, laidOver, wordsOf, startedWords}
 use Rattle.words.proofs.Laying.{block-size}
-use Rattle.words.proofs.Lens.{WordsFit, Memory, back, stands-fit}
+use Rattle.words.proofs.Lens.{back, stands-fit}
 
 -- ---- Words with a shelf laid over them are 548 words of 32 bits again
 
@@ -112,55 +111,34 @@ laid-memory ws s memory f =
 
 -- ---- One call
 
--- Whatever can happen: the words with the model's next shelf laid over them stand for it. (A reach query changes neither.)
-pub next-stands : (ws : List ℕ) (o : Operation) → Memory ws → OperationFits o
-    → shelfOf (laidOver ws (next (shelfOf ws) o)) ≡ next (shelfOf ws) o
-next-stands ws o memory fit = back ws (next (shelfOf ws) o) (next-fits (shelfOf ws) o fit (stands-fit ws memory))
+-- Whatever can happen: the words with the model's next shelf laid over them stand for it, and are such words again. (A reach query changes
+-- neither.)
+module _ (ws : List ℕ) (o : Operation) (memory : Memory ws) (fit : OperationFits o) where
+  fits : Fits (next (shelfOf ws) o)
+  fits = next-fits (shelfOf ws) o fit (stands-fit ws memory)
 
-module _ (ws : List ℕ) (memory : Memory ws) where
-  -- a request, whose frame is bytes
-  pub served-stands : (g : ℕ) (frame out : List ℕ) → BytesFit frame
-      → shelfOf (laidOver ws (served (shelfOf ws) g frame out .shelf)) ≡ served (shelfOf ws) g frame out .shelf
-  unfolding next served
-  served-stands g frame out fit = next-stands ws (Ask g frame out) memory fit
+  pub next-stands : shelfOf (laidOver ws (next (shelfOf ws) o)) ≡ next (shelfOf ws) o
+  next-stands = back ws (next (shelfOf ws) o) fits
 
-  -- an event report, of a 32-bit amount
-  pub event-stands : (p source amount : ℕ) → amount ≤ 0xFFFFFFFF
-      → shelfOf (laidOver ws (event (shelfOf ws) p source amount .shelf)) ≡ event (shelfOf ws) p source amount .shelf
-  unfolding next
-  event-stands p source amount fit = next-stands ws (Event p source amount) memory fit
+  pub next-memory : Memory (laidOver ws (next (shelfOf ws) o))
+  next-memory = laid-memory ws (next (shelfOf ws) o) memory fits
 
-  -- a link change
-  pub link-change-stands : (p : ℕ) → shelfOf (laidOver ws (linkChange (shelfOf ws) p .shelf)) ≡ linkChange (shelfOf ws) p .shelf
-  unfolding next
-  link-change-stands p = next-stands ws (LinkChange p) memory tt
+-- ---- A start that was not refused
 
-  -- the two device notices
-  pub reduced-functionality-stands : shelfOf (laidOver ws (reducedFunctionality (shelfOf ws))) ≡ reducedFunctionality (shelfOf ws)
-  unfolding next
-  reduced-functionality-stands = next-stands ws ReducedFunctionality memory tt
+pub done-words : (ws : List ℕ) (outcome : Outcome) → outcome .taken ≡ Done → startedWords ws outcome ≡ wordsOf (outcome .shelf)
+done-words ws outcome done = rw done
 
-  pub ses-notice-stands : shelfOf (laidOver ws (sesNotice (shelfOf ws))) ≡ sesNotice (shelfOf ws)
-  unfolding next
-  ses-notice-stands = next-stands ws Ses memory tt
+-- of a table of 32 words and an identifier of 8 bytes
 
--- ---- A start, and a run of calls
+module _ (n : ℕ) (groups table identifier : List ℕ) (fit : StartFits table identifier) (done : startTaken n groups table ≡ Done) where
+  fresh-fits : Fits (start n groups table identifier .shelf)
+  fresh-fits = start-sound n groups table identifier fit done .fits
 
--- a start that was not refused, of a table of 32 words and an identifier of 8 bytes
-pub started-stands : (n : ℕ) (groups table identifier : List ℕ) → StartFits table identifier → startTaken n groups table ≡ Done
-    → shelfOf (wordsOf (start n groups table identifier .shelf)) ≡ start n groups table identifier .shelf
-started-stands n groups table identifier fit done =
-    back (replicate 548 0) (start n groups table identifier .shelf) (start-sound n groups table identifier fit done .fits)
+  pub started-stands : shelfOf (wordsOf (start n groups table identifier .shelf)) ≡ start n groups table identifier .shelf
+  started-stands = back (replicate 548 0) (start n groups table identifier .shelf) fresh-fits
 
--- the words after a run of calls, each of which lays the model's next shelf over the words that it found
-unfoldable pub wordsAfter : List ℕ → List Operation → List ℕ
-wordsAfter ws [] = ws
-wordsAfter ws (o ∷ os) = wordsAfter (laidOver ws (next (shelfOf ws) o)) os
-
-pub run-stands : (ws : List ℕ) (os : List Operation) → Memory ws → AllFit os → shelfOf (wordsAfter ws os) ≡ after (shelfOf ws) os
-unfolding wordsAfter after
-run-stands ws [] memory fit = refl
-run-stands ws (o ∷ os) memory fit =
-    let fits : Fits (next (shelfOf ws) o) = next-fits (shelfOf ws) o (fit .0) (stands-fit ws memory) in
-    run-stands (laidOver ws (next (shelfOf ws) o)) os (laid-memory ws (next (shelfOf ws) o) memory fits) (fit .1)
-    ∙ ap (λ s. after s os) (next-stands ws o memory (fit .0))
+  pub started-memory : Memory (wordsOf (start n groups table identifier .shelf))
+  started-memory =
+      let zeros : Memory (replicate 548 0) =
+      record { size = refl; words = replicate-each (λ w. w ≤ 0xFFFFFFFF) 0 548 (omega arith) } in
+      laid-memory (replicate 548 0) (start n groups table identifier .shelf) zeros fresh-fits

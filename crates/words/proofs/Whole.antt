@@ -1,4 +1,4 @@
--- A whole shelf written over its words: one phy after another, and then the words before them. Assumes nothing.
+-- A fresh shelf written over its words: one phy after another, and then the words before them. Assumes nothing.
 use Prim.Native.Nat.{ℕ, zero, suc, _+_, _*_, _≤_, _<_}
 use native.Mathlib.Nat.{zero-add, add-assoc}
 use native.Mathlib.Omega.{arith}
@@ -7,8 +7,9 @@ use mathlib.Core.List.{List, [], _∷_, _++_, map, append-assoc, append-nil}
 use lib.ListN.{length, getD, take, drop, set, replicate, take-append-drop, length-append, length-drop, drop-of-length-le}
 use lib.Seq.{sets, sets-eq, drop-drop, take-at, drop-at, getD-drop, length-take-le}
 use Rattle.model.specs.declared.Phy.{Phy}
-use Rattle.model.specs.declared.Shelf.{Shelf}
 use Rattle.model.specs.Bytes.{byte}
+use Rattle.model.specs.Shelf.{noPhy, freshPhy, startGroup, freshPhys, freshShelf}
+use Rattle.model.proofs.Plain.Start.{fresh-phys}
 use Rattle.model.proofs.Laws.Places.{sets-append}
 use Rattle.words.specs.Words.{phyOver, physOver, eight, laidOver, wordsOf}
 use Rattle.words.proofs.Laying.{block-size}
@@ -117,11 +118,16 @@ module _ (ws : List ℕ) where
       let there : 12 ≡ 0 + length device = omega arith in
       rw (e₂, e₁, there, sets-append ws device table 0, sets-eq (device ++ table) ws 0 (omega arith), size)
 
--- every word is 0, then the phys are laid, then the words before them
-pub whole-laid : (s : Shelf) {first second third : List ℕ}
+-- each of the fresh phys is fresh in its group
+pub fresh-at : (n : ℕ) (groups : List ℕ) (p : ℕ) → p < 24 → getD (freshPhys n groups) p noPhy ≡ freshPhy (startGroup n groups p)
+unfolding freshShelf
+fresh-at n groups p h = fresh-phys n groups [] [] p h
+
+-- every word is 0, then the fresh phys are laid, then the words before them
+pub fresh-laid : (n : ℕ) (groups table identifier : List ℕ) {first second third : List ℕ}
     → first ≡ replicate 548 0
-    → second ≡ take 44 first ++ physOver first 44 (s .phys)
-    → third ≡ (s .number ∷ s .changes ∷ s .expander3 ∷ s .ses0 ∷ map (byte (s .identifier)) eight) ++ s .table ++ drop 44 second
-    → third ≡ wordsOf s
-unfolding laidOver
-whole-laid s e₁ e₂ e₃ = rw (e₃, e₂, e₁) (simp zero-add)
+    → second ≡ take 44 first ++ physOver first 44 (freshPhys n groups)
+    → third ≡ (n ∷ 0x0001 ∷ 0 ∷ 0 ∷ map (byte identifier) eight) ++ table ++ drop 44 second
+    → third ≡ wordsOf (freshShelf n groups table identifier)
+unfolding laidOver freshShelf
+fresh-laid n groups table identifier e₁ e₂ e₃ = rw (e₃, e₂, e₁) (simp zero-add)

@@ -1,2 +1,3 @@
--- The shelf in the firmware's memory.
+-- The shelf in words that its caller keeps, and what their type says of these.
 pub mod Words
+pub mod Memory

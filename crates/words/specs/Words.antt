@@ -1,5 +1,5 @@
--- The shelf in the firmware's memory: 548 words of 32 bits, which C sees as `struct smp_shelf` of firmware/kinubarsil.h. Two
--- definitions: the shelf that such words stand for, and the words with another shelf laid over them.
+-- The shelf in words that its caller keeps: 548 of 32 bits, which C sees as `struct smp_shelf` of firmware/kinubarsil.h. Two definitions:
+-- the shelf that such words stand for, and the words with another shelf laid over them.
 --
 -- A number that is narrower than 32 bits stands in the low bits of its word; the bits above are not read, and stay.
 use Prim.Native.Nat.{ℕ, zero, suc, _+_, _*_, _/_, _%_}
@@ -8,8 +8,11 @@ use mathlib.Core.List.{List, [], _∷_, _++_, map}
 use lib.Dec.{eqb}
 use lib.ListN.{getD, take, drop, replicate}
 use Rattle.model.specs.declared.Monitor.{Monitor}
+use Rattle.model.specs.declared.Outcome.{Outcome}
 use Rattle.model.specs.declared.Phy.{Phy}
 use Rattle.model.specs.declared.Shelf.{Shelf}
+use Rattle.model.specs.declared.Taken.{Taken}
+use Rattle.model.specs.declared.Taken.the-variants.{Done, NotDone}
 use Rattle.model.specs.Bytes.{byte}
 use Rattle.model.specs.Reply.{errorAt, monitorAt}
 use Rattle.model.specs.Shelf.{monitor}
@@ -110,3 +113,11 @@ laidOver ws s =
 -- the words of a shelf by itself: every bit above a number is 0
 abbrev pub wordsOf : Shelf → List ℕ
 wordsOf s = laidOver (replicate 548 0) s
+
+abbrev pub startedAs : List ℕ → Taken → Shelf → List ℕ
+startedAs ws Done s = wordsOf s
+startedAs ws (NotDone house) s = ws
+
+-- The words after a start: those of the fresh shelf; or, where it is refused, as they were: "A refused start gives no device."
+abbrev pub startedWords : List ℕ → Outcome → List ℕ
+startedWords ws outcome = startedAs ws (outcome .taken) (outcome .shelf)

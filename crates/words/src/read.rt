@@ -1,4 +1,5 @@
 // Pieces of the shelf, read out of its words.
+use crate::WORDS;
 use model::Monitor;
 use model::Phy;
 use shelf::phys::fresh_phy;
@@ -16,7 +17,7 @@ pub fn low16(word: u32) -> u16
 }
 
 // The monitor whose words begin at a place.
-fn monitor(words: &[u32; 548], at: usize) -> Monitor
+fn monitor(words: &[u32; WORDS], at: usize) -> Monitor
     requires { ⌜ at + 3 ≤ 548 ⌝ }
     ensures { λ r. ⌜ r ≡ monitorOf (now (words .entry)) at ⌝ }
 {
@@ -28,7 +29,7 @@ fn monitor(words: &[u32; 548], at: usize) -> Monitor
 }
 
 // Its four monitors, one after another.
-fn monitors(words: &[u32; 548], at: usize) -> [Monitor; 4]
+fn monitors(words: &[u32; WORDS], at: usize) -> [Monitor; 4]
     requires { ⌜ at + 12 ≤ 548 ⌝ }
     ensures { λ r. ⌜ r ≡ monitorsOf (now (words .entry)) at ⌝ }
 {
@@ -41,7 +42,7 @@ fn monitors(words: &[u32; 548], at: usize) -> [Monitor; 4]
 }
 
 // The phy whose words begin at a place.
-fn phy(words: &[u32; 548], at: usize) -> Phy
+fn phy(words: &[u32; WORDS], at: usize) -> Phy
     requires { ⌜ at + 21 ≤ 548 ⌝ }
     ensures { λ r. ⌜ r ≡ phyOf (now (words .entry)) at ⌝ }
 {
@@ -57,7 +58,7 @@ fn phy(words: &[u32; 548], at: usize) -> Phy
 }
 
 // Phy p of the shelf. Where there is no phy stands a fresh one of group 0.
-pub fn phy_at(words: &[u32; 548], p: u32) -> Phy
+pub fn phy_at(words: &[u32; WORDS], p: u32) -> Phy
     ensures { λ r. ⌜ r ≡ phyAt (shelfOf (now (words .entry))) p ⌝ }
 {
     if 24 <= p {
@@ -67,7 +68,7 @@ pub fn phy_at(words: &[u32; 548], p: u32) -> Phy
 }
 
 // Row g of the table; past the last there is none, and so no bit.
-pub fn row(words: &[u32; 548], g: u32) -> u32
+pub fn row(words: &[u32; WORDS], g: u32) -> u32
     ensures { λ r. ⌜ r ≡ row (shelfOf (now (words .entry)) .table) g ⌝ }
 {
     if 31 < g {
@@ -84,7 +85,7 @@ fn low8(word: u32) -> u8
 }
 
 // The enclosure identifier, byte by byte.
-pub fn identifier(words: &[u32; 548]) -> [u8; 8]
+pub fn identifier(words: &[u32; WORDS]) -> [u8; 8]
     ensures { λ r. ⌜ r ≡ shelfOf (now (words .entry)) .identifier ⌝ }
 {
     [

@@ -1,7 +1,7 @@
-// Pieces of the shelf, put back into its words, and a whole shelf laid into them.
+// Pieces of the shelf, put back into its words.
+use crate::WORDS;
 use model::Monitor;
 use model::Phy;
-use model::Shelf;
 ghost use mathlib.Core.Path.{_≡_};
 ghost use mathlib.Core.Bool.{cond};
 ghost use Prim.Native.Nat.{_+_, _≤_};
@@ -102,7 +102,7 @@ fn counts_over(words: &[u32], at: usize, numbers: Phy) -> [u32; 3]
 }
 
 // Writes numbers over the words, from a place on.
-fn store(words: &mut [u32], at: usize, numbers: &[u32])
+pub(crate) fn store(words: &mut [u32], at: usize, numbers: &[u32])
     requires { ⌜ at + length (now numbers) ≤ length (now words) ⌝ }
     ensures { λ _. ⌜ now (words .exit) ≡ sets (now (words .entry)) at (now (numbers .entry)) ⌝ }
 {
@@ -112,7 +112,7 @@ fn store(words: &mut [u32], at: usize, numbers: &[u32])
 }
 
 // Writes a phy's record over the 21 words that begin at a place.
-fn store_phy(words: &mut [u32], at: usize, numbers: Phy)
+pub(crate) fn store_phy(words: &mut [u32], at: usize, numbers: Phy)
     requires { ⌜ at + 21 ≤ length (now words) ⌝ }
     ensures { λ _. ⌜ now (words .exit) ≡ sets (now (words .entry)) at (phyOver (now (words .entry)) at numbers) ⌝ }
 {
@@ -125,7 +125,7 @@ fn store_phy(words: &mut [u32], at: usize, numbers: Phy)
 }
 
 // Another record for phy p, and another change count. Where there is no place for the phy, none is stored.
-pub fn put(words: &mut [u32; 548], p: u32, numbers: Phy, changes: u16)
+pub fn put(words: &mut [u32; WORDS], p: u32, numbers: Phy, changes: u16)
     ensures { λ _. ⌜ now (words .exit) ≡ laidOver (now (words .entry)) (put (shelfOf (now (words .entry))) p numbers changes) ⌝ }
 {
     let all: &mut [u32] = words;
@@ -138,85 +138,10 @@ pub fn put(words: &mut [u32; 548], p: u32, numbers: Phy, changes: u16)
 }
 
 // Other counts under FFh: Expander 3h and SES 0h.
-pub fn put_device(words: &mut [u32; 548], expander3: u16, ses0: u16)
+pub fn put_device(words: &mut [u32; WORDS], expander3: u16, ses0: u16)
     ensures { λ _. ⌜ now (words .exit) ≡ laidOver (now (words .entry)) (putDevice (shelfOf (now (words .entry))) expander3 ses0) ⌝ }
 {
     let all: &mut [u32] = words;
     all[2] = set_low16(all[2], expander3);
     all[3] = set_low16(all[3], ses0);
-}
-
-// Makes every word 0.
-fn clear(words: &mut [u32])
-    requires { ⌜ length (now words) ≡ 548 ⌝ }
-    ensures { λ _. ⌜ now (words .exit) ≡ replicate 548 0 ⌝ }
-{
-    for i in 0..548usize {
-        words[i] = 0;
-    }
-}
-
-// Writes the words of the phys over those that are there, from word 44 on.
-fn lay_phys(words: &mut [u32], phys: [Phy; 24])
-    requires { ⌜ length (now words) ≡ 548 ⌝ }
-    ensures { λ _. ⌜ now (words .exit) ≡ take 44 (now (words .entry)) ++ physOver (now (words .entry)) 44 phys ⌝ }
-{
-    for p in 0..24usize {
-        store_phy(words, 44 + 21 * p, phys[p]);
-    }
-}
-
-// The 12 device wide words, where every bit above a number is 0.
-fn device_words(
-    number: u32,
-    changes: u16,
-    expander3: u16,
-    ses0: u16,
-    identifier: [u8; 8],
-) -> [u32; 12]
-    ensures { λ r. ⌜ r ≡ number ∷ changes ∷ expander3 ∷ ses0 ∷ map (byte identifier) eight ⌝ }
-{
-    [
-        number,
-        changes as u32,
-        expander3 as u32,
-        ses0 as u32,
-        identifier[0] as u32,
-        identifier[1] as u32,
-        identifier[2] as u32,
-        identifier[3] as u32,
-        identifier[4] as u32,
-        identifier[5] as u32,
-        identifier[6] as u32,
-        identifier[7] as u32,
-    ]
-}
-
-// Writes the words before the phys: the 12 device wide ones, and the 32 rows.
-fn lay_front(words: &mut [u32], device: [u32; 12], table: [u32; 32])
-    requires { ⌜ length (now words) ≡ 548 ⌝ }
-    ensures { λ _. ⌜ now (words .exit) ≡ device ++ table ++ drop 44 (now (words .entry)) ⌝ }
-{
-    store(words, 0, &device);
-    store(words, 12, &table);
-}
-
-// Writes a whole shelf, as at a start: every bit above a number is 0.
-pub fn lay(words: &mut [u32; 548], shelf: Shelf)
-    ensures { λ _. ⌜ now (words .exit) ≡ wordsOf shelf ⌝ }
-{
-    let phys = shelf.phys;
-    let table = shelf.table;
-    let identifier = shelf.identifier;
-    let device = device_words(
-        shelf.number,
-        shelf.changes,
-        shelf.expander3,
-        shelf.ses0,
-        identifier,
-    );
-    let all: &mut [u32] = words;
-    clear(all);
-    lay_phys(all, phys);
-    lay_front(all, device, table);
 }

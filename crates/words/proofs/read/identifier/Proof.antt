@@ -1,4 +1,5 @@
 use borrow.Author.Needs.{needs}
+use mathlib.Core.Path.{refl}
 use Rattle.words.specs.Words.{shelfOf}
 use Rattle.words.proofs.read.identifier.Statement.{statement}
 use Rattle.words.proofs.read.identifier.Tie as tie
@@ -64,6 +65,7 @@ returns c =
       c .before .before .low87 .ensures,
       c .low88 .ensures,
     )
+    refl
 
 pub identifier-spec : {M : Type 1} → statement M
 identifier-spec =

@@ -1,6 +1,7 @@
 -- `words::store::put` meets its contract: the change count, and, where the phy has its place, its words. Assumes nothing.
 use borrow.Author.Needs.{needs}
 use native.Mathlib.Omega.{arith}
+use mathlib.Core.Path.{refl}
 use Rattle.words.proofs.Laying.{put-stored, laid-past}
 use Rattle.words.proofs.store.put.Statement.{statement}
 use Rattle.words.proofs.store.put.Tie as tie
@@ -18,6 +19,7 @@ returns : tie.Need-returns
 returns c =
     let a = c .before .before .before .before .args in
     rw (c .set-low16 .ensures, laid-past (a .words .now) (omega arith) (a .p) (a .numbers) (a .changes) (omega arith))
+    refl
 
 mul-store-phy : tie.Need-mul-store-phy
 mul-store-phy c = search needs

@@ -2,7 +2,7 @@
 use borrow.Author.Needs.{needs}
 use Prim.Native.Nat.{ℕ}
 use native.Mathlib.Omega.{arith}
-use mathlib.Core.Path.{_≡_}
+use mathlib.Core.Path.{_≡_, refl}
 use lib.ListN.{getD, set}
 use lib.Seq.{getD-set-other}
 use Rattle.words.proofs.Laying.{laid-device}
@@ -38,6 +38,7 @@ returns c =
       kept,
       laid-device (a .words .now) (omega arith) (a .expander3) (a .ses0),
     )
+    refl
 
 pub put-device-spec : {M : Type 1} → statement M
 put-device-spec =

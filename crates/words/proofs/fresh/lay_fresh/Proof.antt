@@ -1,9 +1,9 @@
--- `words::store::lay` meets its contract: all words are 0, then the phys are laid, then the words before them. Assumes nothing.
+-- `words::fresh::lay_fresh` meets its contract: all words are 0, then the phys are laid, then the words before them. Assumes nothing.
 use borrow.Author.Needs.{needs}
 use mathlib.Core.Path.{_∙_}
-use Rattle.words.proofs.Whole.{whole-laid}
-use Rattle.words.proofs.store.lay.Statement.{statement}
-use Rattle.words.proofs.store.lay.Tie as tie
+use Rattle.words.proofs.Whole.{fresh-laid}
+use Rattle.words.proofs.fresh.lay_fresh.Statement.{statement}
+use Rattle.words.proofs.fresh.lay_fresh.Tie as tie
 
 device-words-requires : tie.Need-device-words-requires
 device-words-requires c κs = search needs
@@ -22,14 +22,14 @@ returns c =
     let phys = c .before .before .before in
     let zeros = phys .before .before .before .before in
     let device = zeros .before .before .before in
-    let a = device .before .before .before .before .args in
-    whole-laid (a .shelf)
+    let a = device .before .args in
+    fresh-laid (a .number) (a .groups) (a .table) (a .identifier)
     (zeros .clear .ensures)
     (phys .lay-phys .ensures)
     (c .lay-front .ensures ∙ rw (device .device-words .ensures))
 
-pub lay-spec : {M : Type 1} → statement M
-lay-spec =
+pub lay-fresh-spec : {M : Type 1} → statement M
+lay-fresh-spec =
     tie.close
     (tie.spec
     device-words-requires

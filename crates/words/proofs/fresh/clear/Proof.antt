@@ -1,4 +1,4 @@
--- `words::store::clear` meets its contract. The loop's invariant: the first i words are 0. The measure is how many are left.
+-- `words::fresh::clear` meets its contract. The loop's invariant: the first i words are 0. The measure is how many are left.
 -- Assumes nothing.
 use borrow.Author.Needs.{needs}
 use Prim.Native.Nat.{_-_, _≤_}
@@ -8,8 +8,8 @@ use mathlib.Core.Path.{_≡_, refl, _∙_}
 use mathlib.Core.List.{_++_}
 use lib.ListN.{length, drop, replicate, length-set}
 use Rattle.words.proofs.Whole.{zeros-more, zeros-all}
-use Rattle.words.proofs.store.clear.Statement.{statement}
-use Rattle.words.proofs.store.clear.Tie as tie
+use Rattle.words.proofs.fresh.clear.Statement.{statement}
+use Rattle.words.proofs.fresh.clear.Tie as tie
 
 abbrev Inv-loop : tie.InvT-loop
 Inv-loop words₀ i₀ words i = (i ≤ 548) × (length words ≡ 548) × (words ≡ replicate i 0 ++ drop i words₀)

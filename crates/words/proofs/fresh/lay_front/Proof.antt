@@ -1,9 +1,9 @@
--- `words::store::lay_front` meets its contract: two runs of words, one behind the other. Assumes nothing.
+-- `words::fresh::lay_front` meets its contract: two runs of words, one behind the other. Assumes nothing.
 use borrow.Author.Needs.{needs}
 use native.Mathlib.Omega.{arith}
 use Rattle.words.proofs.Whole.{front-stored}
-use Rattle.words.proofs.store.lay_front.Statement.{statement}
-use Rattle.words.proofs.store.lay_front.Tie as tie
+use Rattle.words.proofs.fresh.lay_front.Statement.{statement}
+use Rattle.words.proofs.fresh.lay_front.Tie as tie
 
 slice-aggregate-store : tie.Need-slice-aggregate-store
 slice-aggregate-store c = search needs
