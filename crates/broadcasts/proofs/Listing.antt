@@ -4,7 +4,7 @@ use native.Mathlib.Omega.{arith}
 use mathlib.Core.Path.{_≡_, refl, ap, _∙_}
 use mathlib.Core.List.{List, [], _∷_, _++_, append-assoc}
 use lib.ListN.{length, take, drop, length-append}
-use lib.Seq.{sets, sets-eq, length-sets, length-take-le, take-length, drop-at}
+use lib.Seq.{sets-eq, length-sets, length-take-le, take-length, drop-at}
 use Rattle.model.specs.declared.Shelf.{Shelf}
 use Rattle.model.specs.Reply.{Broadcast, broadcasts, broadcastBytes, broadcastHead, reportBroadcast}
 use Rattle.model.specs.Server.{over}
@@ -12,7 +12,7 @@ use Rattle.model.proofs.Demands.Frames.{broadcasts-few}
 use Rattle.model.proofs.Laws.Places.{sets-append}
 use Rattle.model.proofs.Plain.Reply.{broadcast-bytes-length}
 use Rattle.replies.specs.Sent.{Sent}
-use Rattle.replies.proofs.Sending.{has-room}
+use Rattle.replies.proofs.Room.{has-room}
 use Rattle.broadcasts.specs.Listed.{listedFrom, Lists}
 
 descriptors-append : (xs ys : List Broadcast) → broadcastBytes (xs ++ ys) ≡ broadcastBytes xs ++ broadcastBytes ys

@@ -2,17 +2,9 @@
 use mathlib.Core.Path.{sym, ap, _∙_}
 use Rattle.model.specs.Settled.{Settled}
 use Rattle.broadcasts.proofs.report_broadcast
-use Rattle.broadcasts.proofs.memory.report_broadcast_words
 
 pub report-broadcast-settled : Settled report_broadcast.Kinds.ps report_broadcast.Kinds.r report_broadcast.Reads.Pre report_broadcast.Reads.Post
 report-broadcast-settled = record {
-  asks-nothing = λ κs a. tt;
-  same-result = λ κs a x y. x .promised .0 ∙ sym (y .promised .0);
-  same-lent = λ κs a x y. ap (λ out. (tt, (tt, (tt, (out, tt))))) (x .promised .1 ∙ sym (y .promised .1));
-}
-
-pub report-broadcast-words-settled : Settled report_broadcast_words.Kinds.ps report_broadcast_words.Kinds.r report_broadcast_words.Reads.Pre report_broadcast_words.Reads.Post
-report-broadcast-words-settled = record {
   asks-nothing = λ κs a. tt;
   same-result = λ κs a x y. x .promised .0 ∙ sym (y .promised .0);
   same-lent = λ κs a x y. ap (λ out. (tt, (tt, (tt, (out, tt))))) (x .promised .1 ∙ sym (y .promised .1));

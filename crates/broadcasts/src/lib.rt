@@ -1,24 +1,24 @@
 // 06h: "Every non-zero count of that type that the source may see is listed: FFh first, then phys
-// rising, then reason rising." The list is written into the lent buffer as it is walked.
+// rising, then reason rising." The list is written into the lent buffer as it is walked: a phy is read from the
+// shelf's words where it stands, as the list comes to it.
 //
-// `report_broadcast` asks nothing of its caller, and neither does `memory::report_broadcast_words`, which reads the
-// shelf from its words. The functions that they rest on are private: they ask for room, and for no more
-// descriptors than there can be, which are 49: one under FFh and two for each of 24 phys.
+// `report_broadcast` asks nothing of its caller. The functions that it rests on are private: they ask for room,
+// and for no more descriptors than there can be, which are 49: one under FFh and two for each of 24 phys.
 // (`kind` is the broadcast type; `type` is a word of the language.)
-pub mod memory;
-
 use gate::zone::smp_row_reaches;
 use model::Phy;
-use model::Shelf;
 use replies::fixed::broadcast_descriptor;
 use replies::wire::two;
-use shelf::phys::phy_at;
 use shelf::phys::phy_number;
-use shelf::table::row;
+use words::WORDS;
+use words::read::low16;
+use words::read::phy_at;
+use words::read::row;
 ghost use mathlib.Core.Path.{_≡_};
 ghost use Prim.Native.Nat.{_≤_};
 ghost use lib.ListN.{length};
 ghost use Rattle.model.specs.Reply.{listed, deviceListed, phyListed, seenListed, broadcasts, broadcastHead, reportBroadcast};
+ghost use Rattle.words.specs.Words.{shelfOf};
 ghost use Rattle.broadcasts.specs.Listed.{Lists};
 ghost use Rattle.replies.specs.Sent.{Sent};
 
@@ -38,7 +38,7 @@ fn list(out: &mut [u8], n: u8, phy: u8, reason: u8, count: u16) -> u8
 }
 
 // The count under FFh: "two broadcast counts under FFh: Expander 3h (reduced functionality) and SES 0h".
-pub(crate) fn list_device(out: &mut [u8], kind: u8, expander3: u16, ses0: u16) -> u8
+fn list_device(out: &mut [u8], kind: u8, expander3: u16, ses0: u16) -> u8
     requires { ⌜ 1028 ≤ length (now out) ⌝ }
     ensures { λ r. ⌜ Lists (now (out .entry)) 0 (deviceListed kind expander3 ses0) r (now (out .exit)) ⌝ }
 {
@@ -66,7 +66,7 @@ fn list_phy(out: &mut [u8], n: u8, kind: u8, phy: u8, numbers: Phy) -> u8
 }
 
 // .. if the source sees the phy: "A source sees FFh and the phys it reaches."
-pub(crate) fn list_seen(out: &mut [u8], n: u8, row: u32, kind: u8, phy: u8, numbers: Phy) -> u8
+fn list_seen(out: &mut [u8], n: u8, row: u32, kind: u8, phy: u8, numbers: Phy) -> u8
     requires { ⌜ 1028 ≤ length (now out) ⌝ }
     requires { ⌜ n ≤ 47 ⌝ }
     ensures { λ r. ⌜ Lists (now (out .entry)) n (seenListed row kind phy numbers) r (now (out .exit)) ⌝ }
@@ -78,23 +78,21 @@ pub(crate) fn list_seen(out: &mut [u8], n: u8, row: u32, kind: u8, phy: u8, numb
 }
 
 // The whole list: "FFh first, then phys rising, then reason rising." Gives how many there are.
-fn list_all(shelf: Shelf, source: u32, kind: u8, out: &mut [u8]) -> u8
+fn list_all(words: &[u32; WORDS], source: u32, kind: u8, out: &mut [u8]) -> u8
     requires { ⌜ 1028 ≤ length (now out) ⌝ }
-    ensures { λ r. ⌜ Lists (now (out .entry)) 0 (broadcasts shelf source kind) r (now (out .exit)) ⌝ }
+    ensures { λ r. ⌜ Lists (now (out .entry)) 0 (broadcasts (shelfOf (now (words .entry))) source kind) r (now (out .exit)) ⌝ }
 {
-    let table = shelf.table;
-    let phys = shelf.phys;
-    let row = row(table, source);
-    let number = phy_number(shelf.number);
-    let mut n = list_device(out, kind, shelf.expander3, shelf.ses0);
+    let row = row(words, source);
+    let number = phy_number(words[0]);
+    let mut n = list_device(out, kind, low16(words[2]), low16(words[3]));
     for p in 0..number {
-        n = list_seen(out, n, row, kind, p as u8, phy_at(phys, p));
+        n = list_seen(out, n, row, kind, p as u8, phy_at(words, p));
     }
     n
 }
 
 // "Response: 6 type, 7 number n, .. length 1 + 2n": the 8 bytes before the list.
-pub(crate) fn broadcast_head(changes: u16, kind: u8, n: u8) -> [u8; 8]
+fn broadcast_head(changes: u16, kind: u8, n: u8) -> [u8; 8]
     requires { ⌜ n ≤ 49 ⌝ }
     ensures { λ r. ⌜ r ≡ broadcastHead changes kind n ⌝ }
 {
@@ -104,13 +102,13 @@ pub(crate) fn broadcast_head(changes: u16, kind: u8, n: u8) -> [u8; 8]
 
 // The response to 06h, in the lent buffer. Gives its length. Into a buffer shorter than 1,028 bytes nothing
 // is sent.
-pub fn report_broadcast(shelf: Shelf, source: u32, kind: u8, out: &mut [u8]) -> usize
-    ensures { λ r. ⌜ Sent (now (out .entry)) (reportBroadcast shelf source kind) r (now (out .exit)) ⌝ }
+pub fn report_broadcast(words: &[u32; WORDS], source: u32, kind: u8, out: &mut [u8]) -> usize
+    ensures { λ r. ⌜ Sent (now (out .entry)) (reportBroadcast (shelfOf (now (words .entry))) source kind) r (now (out .exit)) ⌝ }
 {
     if out.len() < 1028 {
         return 0;
     }
-    let n = list_all(shelf, source, kind, out);
-    bytes::copy(&broadcast_head(shelf.changes, kind, n), out);
+    let n = list_all(words, source, kind, out);
+    bytes::copy(&broadcast_head(low16(words[1]), kind, n), out);
     8 + 8 * (n as usize)
 }

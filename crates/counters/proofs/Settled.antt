@@ -7,6 +7,7 @@ use Rattle.counters.proofs.counts.add_wrapping
 use Rattle.counters.proofs.counts.add_saturating
 use Rattle.counters.proofs.phy.event_on
 use Rattle.counters.proofs.phy.change_on
+use Rattle.counters.proofs.report.event_taken
 use Rattle.counters.proofs.sources.counting
 use Rattle.counters.proofs.sources.peak
 use Rattle.counters.proofs.sources.supported
@@ -25,6 +26,9 @@ event-on-settled = value-settles _ _ _ (λ κs a x y. refl)
 
 pub change-on-settled : Settled change_on.Kinds.ps change_on.Kinds.r change_on.Reads.Pre change_on.Reads.Post
 change-on-settled = value-settles _ _ _ (λ κs a x y. refl)
+
+pub event-taken-settled : Settled event_taken.Kinds.ps event_taken.Kinds.r event_taken.Reads.Pre event_taken.Reads.Post
+event-taken-settled = value-settles _ _ _ (λ κs a x y. refl)
 
 pub counting-settled : Settled counting.Kinds.ps counting.Kinds.r counting.Reads.Pre counting.Reads.Post
 counting-settled = value-settles _ _ _ (λ κs a x y. refl)

@@ -1,5 +1,5 @@
 -- Facts of bytes that are copied into a buffer; the crates that write into the lent one use them too.
 pub mod Laid
-pub mod Sending
+pub mod Room
 -- Each public promise settles its outcome.
 pub mod Settled

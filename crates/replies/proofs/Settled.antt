@@ -1,5 +1,5 @@
 -- The promise of each public function of this crate settles its outcome (`Settled` of the model). Assumes nothing.
-use mathlib.Core.Path.{refl}
+use mathlib.Core.Path.{refl, sym, ap, _∙_}
 use Rattle.model.specs.Settled.{Settled}
 use Rattle.model.proofs.Laws.Settling.{value-settles}
 use Rattle.replies.proofs.fixed.failed
@@ -9,6 +9,7 @@ use Rattle.replies.proofs.fixed.report_phy_error_log
 use Rattle.replies.proofs.fixed.report_phy_event
 use Rattle.replies.proofs.fixed.broadcast_descriptor
 use Rattle.replies.proofs.wire.two
+use Rattle.replies.proofs.sending.send_result
 
 pub failed-settled : Settled failed.Kinds.ps failed.Kinds.r failed.Reads.Pre failed.Reads.Post
 failed-settled = value-settles _ _ _ (λ κs a x y. refl)
@@ -30,3 +31,10 @@ broadcast-descriptor-settled = value-settles _ _ _ (λ κs a x y. refl)
 
 pub two-settled : Settled two.Kinds.ps two.Kinds.r two.Reads.Pre two.Reads.Post
 two-settled = value-settles _ _ _ (λ κs a x y. refl)
+
+pub send-result-settled : Settled send_result.Kinds.ps send_result.Kinds.r send_result.Reads.Pre send_result.Reads.Post
+send-result-settled = record {
+  asks-nothing = λ κs a. tt;
+  same-result = λ κs a x y. x .promised .0 ∙ sym (y .promised .0);
+  same-lent = λ κs a x y. ap (λ out. (tt, (tt, (out, tt)))) (x .promised .1 ∙ sym (y .promised .1));
+}

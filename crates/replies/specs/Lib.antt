@@ -1,2 +1,2 @@
--- What a function that sends a response promises. None here sends; the crates above that do share it.
+-- What a function that sends a response promises. The crates above that send share it.
 pub mod Sent

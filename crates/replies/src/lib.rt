@@ -1,8 +1,10 @@
 // The responses of a fixed size, byte by byte, and the descriptor of 06h's list, each made and handed back
-// by value.
+// by value; and a result, sent into the lent buffer (`sending`).
 //
 // Each public function is proved equal to a definition of the model (crates/model/specs/Reply and
-// Bytes), and bears its name. None asks anything of its caller.
+// Bytes), and bears its name. `send_result` sends what `failed` is (`Sent`, crates/replies/specs). None asks
+// anything of its caller.
 pub mod fixed;
 mod lay;
+pub mod sending;
 pub mod wire;

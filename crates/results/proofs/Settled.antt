@@ -6,7 +6,6 @@ use Rattle.results.proofs.check_read
 use Rattle.results.proofs.check_kind
 use Rattle.results.proofs.check_control
 use Rattle.results.proofs.check_configure
-use Rattle.results.proofs.result_of
 
 pub check-read-settled : Settled check_read.Kinds.ps check_read.Kinds.r check_read.Reads.Pre check_read.Reads.Post
 check-read-settled = value-settles _ _ _ (λ κs a x y. refl)
@@ -19,6 +18,3 @@ check-control-settled = value-settles _ _ _ (λ κs a x y. refl)
 
 pub check-configure-settled : Settled check_configure.Kinds.ps check_configure.Kinds.r check_configure.Reads.Pre check_configure.Reads.Post
 check-configure-settled = value-settles _ _ _ (λ κs a x y. refl)
-
-pub result-of-settled : Settled result_of.Kinds.ps result_of.Kinds.r result_of.Reads.Pre result_of.Reads.Post
-result-of-settled = value-settles _ _ _ (λ κs a x y. refl)

@@ -2,11 +2,10 @@
 // pieces of the shelf: the present change count, whether the request's phy exists, and whether the
 // source reaches it.
 use model::FunctionResult;
-use model::Request;
 use writes::descriptors::first_unsupported;
 ghost use mathlib.Core.Path.{_≡_};
 ghost use Rattle.model.specs.Results.{countRight, knownOperation, checkPhy, checkRead, checkWrite};
-ghost use Rattle.model.specs.Results.{checkKind, checkOperation, checkDescriptors, resultOf};
+ghost use Rattle.model.specs.Results.{checkKind, checkOperation, checkDescriptors};
 ghost use Rattle.model.specs.declared.FunctionResult.the-variants.{Accepted};
 
 // Not 04h: "91h and 93h, when bytes 4 and 5 are neither 0000h nor the present count"
@@ -115,39 +114,9 @@ pub fn check_configure(
 ) -> FunctionResult
     ensures { λ r. ⌜ r ≡ checkWrite (countRight changes expected) there reached (checkDescriptors (now (frame .entry)) d) ⌝ }
 {
-    let so_far = check_write(changes, expected, there, reached);
-    let FunctionResult::Accepted = so_far else {
-        return so_far;
+    let all_before = check_write(changes, expected, there, reached);
+    let FunctionResult::Accepted = all_before else {
+        return all_before;
     };
     check_descriptors(frame, d)
-}
-
-// The result of a request.
-pub fn result_of(
-    changes: u16,
-    there: bool,
-    reached: bool,
-    frame: &[u8],
-    request: Request,
-) -> FunctionResult
-    ensures { λ r. ⌜ r ≡ resultOf changes there reached (now (frame .entry)) request ⌝ }
-{
-    match request {
-        Request::ReportGeneral => FunctionResult::Accepted,
-        Request::ReportManufacturer => FunctionResult::Accepted,
-        Request::ReportBroadcast { kind } => check_kind(kind),
-        Request::ReportPhyErrorLog { phy: _ } => check_read(there, reached),
-        Request::ReportPhyEvent { phy: _ } => check_read(there, reached),
-        Request::PhyControl {
-            expected,
-            phy: _,
-            operation,
-        } => check_control(changes, expected, there, reached, operation),
-        Request::ConfigurePhyEvent {
-            expected,
-            clear: _,
-            phy: _,
-            number,
-        } => check_configure(changes, expected, there, reached, frame, number),
-    }
 }

@@ -1,6 +1,5 @@
--- Facts that the functions' proofs use: of a loop that asks whether all pass, of one that adds bits, and of one that fills an array.
+-- Facts that the functions' proofs use, here and above: of a loop that asks whether all pass, and of one that adds bits.
 pub mod All
 pub mod Adding
-pub mod Filled
 -- Each public promise settles its outcome.
 pub mod Settled

@@ -1,8 +1,10 @@
-// The state of the shelf: which phys it has, its table, how it starts, and what a reach query tells.
+// Pieces of the shelf: which phys there are and a fresh one, a legal table, what a start is told and which group
+// each phy then gets, and what a phy adds to the set of those reached. Where the shelf is kept is the matter of
+// the crates above.
 //
-// A shelf is handed over by value. Each public function is proved equal to a definition of the model
-// (crates/model/specs), and bears its name; `phy_number` and `exists` take the phy number alone, `phy_at`
-// the phys alone, and say what the definitions say of a shelf. None asks anything of its caller.
+// Each public function is proved equal to a definition of the model (crates/model/specs), and bears its name, or
+// says of the phy number alone what the definitions say of a shelf (`phy_number`, `exists`). None asks
+// anything of its caller.
 pub mod phys;
 pub mod reach;
 pub mod start;

@@ -1,18 +1,8 @@
-// The permission table: "thirty-two rows, one for each zone group". Its rows, and whether it is legal.
+// The permission table: "thirty-two rows, one for each zone group". Whether it is legal.
 use gate::zone::smp_row_reaches;
 ghost use mathlib.Core.Path.{_≡_};
 ghost use Prim.Native.Nat.{_<_};
-ghost use Rattle.model.specs.Zone.{row, rowSymmetric, symmetric, legalTable};
-
-// Row g of the table; past the last there is none, and so no bit.
-pub fn row(table: [u32; 32], g: u32) -> u32
-    ensures { λ r. ⌜ r ≡ row table g ⌝ }
-{
-    if 31 < g {
-        return 0;
-    }
-    table[g as usize]
-}
+ghost use Rattle.model.specs.Zone.{rowSymmetric, symmetric, legalTable};
 
 // bit h of row g is bit g of row h, for one row g and every h
 fn row_symmetric(table: [u32; 32], g: u32) -> bool

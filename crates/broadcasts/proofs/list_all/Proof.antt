@@ -1,33 +1,47 @@
--- `broadcasts::list_all` meets its contract. The loop goes as `Walk` says, over what the source sees of each phy. The measure is how
--- many of the 24 places are left. Assumes nothing.
+-- `broadcasts::list_all` meets its contract. The loop goes as `Walk` says, over what the source sees of each phy in the words.
+-- The measure is how many of the 24 places are left. Assumes nothing.
 use borrow.Author.Needs.{needs}
 use Prim.Native.Nat.{_-_}
 use native.Mathlib.Omega.{arith}
-use lib.ListN.{getD}
-use Rattle.model.specs.Reply.{deviceListed, broadcasts}
-use Rattle.model.specs.Shelf.{noPhy, phyAt}
-use Rattle.broadcasts.proofs.Walk.{Begun, Walked, seen, walk-begun, walk-begin, walk-turn, walk-length, walk-room, walk-end}
+use Rattle.model.specs.Reply.{broadcasts}
+use Rattle.words.specs.Words.{shelfOf}
+use Rattle.broadcasts.proofs.Walk.{Walked, walk-begin, walk-turn, walk-length, walk-room, walk-end}
 use Rattle.broadcasts.proofs.list_all.Statement.{statement}
 use Rattle.broadcasts.proofs.list_all.Tie as tie
 
 abbrev Inv-loop : tie.InvT-loop
-Inv-loop source kind out₀ phys row number n₀ p₀ out n p =
-    Walked (seen row kind (λ p. getD phys p noPhy)) n₀ out₀ number p n out
+Inv-loop words source kind out₀ row number n₀ p₀ out n p =
+    Walked (shelfOf words .phys) row kind n₀ out₀ number p n out
 
 abbrev μ-loop : tie.MeasureT-loop
-μ-loop source kind out₀ phys row number n₀ p₀ out n p = 24 - p
+μ-loop words source kind out₀ row number n₀ p₀ out n p = 24 - p
 
 row-requires : tie.Need-row-requires Inv-loop μ-loop
 row-requires c κs = search needs
 
+element-copy-out-phy-number : tie.Need-element-copy-out-phy-number Inv-loop μ-loop
+element-copy-out-phy-number c = search needs
+
 phy-number-requires : tie.Need-phy-number-requires Inv-loop μ-loop
 phy-number-requires c κs = search needs
+
+element-copy-out-low16 : tie.Need-element-copy-out-low16 Inv-loop μ-loop
+element-copy-out-low16 c = search needs
+
+low16-requires : tie.Need-low16-requires Inv-loop μ-loop
+low16-requires c κs = search needs
+
+element-copy-out-low16-2 : tie.Need-element-copy-out-low16-2 Inv-loop μ-loop
+element-copy-out-low16-2 c = search needs
+
+low16-requires-2 : tie.Need-low16-requires-2 Inv-loop μ-loop
+low16-requires-2 c κs = search needs
 
 list-device-requires : tie.Need-list-device-requires Inv-loop μ-loop
 list-device-requires c κs = search needs
 
 loop-holds : tie.Need-loop-holds Inv-loop μ-loop
-loop-holds c = walk-begin _ _ _ _
+loop-holds c = walk-begin
 
 cast-list-seen : tie.Need-cast-list-seen Inv-loop μ-loop
 cast-list-seen c = search needs
@@ -35,18 +49,10 @@ cast-list-seen c = search needs
 phy-at-requires : tie.Need-phy-at-requires Inv-loop μ-loop
 phy-at-requires c κs = search needs
 
--- the count under FFh is listed
-begun : (c : tie.After-list-device Inv-loop μ-loop)
-    → let rowed = c .before .before .before in
-    let a = rowed .before .before .before .before .args in
-    Begun (a .out .now) (deviceListed (a .kind) (a .shelf .expander3) (a .shelf .ses0))
-    (seen (rowed .row .result) (a .kind) (phyAt (a .shelf))) (c .list-device .result) (c .list-device .last .0)
-begun c = walk-begun _ _ _ _ _ _ (omega arith) (c .list-device .ensures)
-
 list-seen-requires : tie.Need-list-seen-requires Inv-loop μ-loop
 list-seen-requires c κs =
     let turn = c .before .before .before in
-    walk-room (begun (turn .before .before .before)) _ _ (turn .loop .inv) (omega arith)
+    walk-room (turn .loop .inv) _ _ _ (turn .before .before .before .list-device .ensures) (omega arith) (omega arith)
 
 add-p : tie.Need-add-p Inv-loop μ-loop
 add-p c = search needs
@@ -58,19 +64,26 @@ loop-again : tie.Need-loop-again Inv-loop μ-loop
 loop-again c =
     let listed = c .before .before in
     let turn = listed .before .before .before .before in
-    walk-turn _ _ _ _ (turn .loop .p) (omega arith) (turn .loop .inv)
+    walk-turn (turn .loop .inv) (omega arith)
     (rw (listed .before .phy-at .ensures) at (listed .list-seen .ensures))
 
 same-length : tie.Need-same-length Inv-loop μ-loop
-same-length c = walk-length (begun (c .before .before .before .before)) _ _ (c .before .loop .inv)
+same-length c = walk-length (c .before .loop .inv) _ _ _ (c .before .before .before .before .list-device .ensures)
 
 returns : tie.Need-returns Inv-loop μ-loop
-unfolding broadcasts
+unfolding broadcasts shelfOf
 returns c =
     let first = c .before .before .before .before in
-    let counted = first .before .before in
-    rw (counted .phy-number .ensures, counted .before .row .ensures) at
-    (walk-end (begun first) _ _ (c .before .loop .inv) (omega arith))
+    let ses = first .before in
+    let expander = ses .before .before in
+    let counted = expander .before .before .before in
+    rw (
+      ses .low162 .ensures,
+      expander .low16 .ensures,
+      counted .phy-number .ensures,
+      counted .before .before .row .ensures,
+    ) at
+    (walk-end (c .before .loop .inv) _ _ _ (first .list-device .ensures) (omega arith))
 
 pub list-all-spec : {M : Type 1} → statement M
 list-all-spec =
@@ -79,7 +92,12 @@ list-all-spec =
     Inv-loop
     μ-loop
     row-requires
+    element-copy-out-phy-number
     phy-number-requires
+    element-copy-out-low16
+    low16-requires
+    element-copy-out-low16-2
+    low16-requires-2
     list-device-requires
     loop-holds
     cast-list-seen

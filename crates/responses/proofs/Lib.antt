@@ -1,2 +1,0 @@
--- Each public promise settles its outcome.
-pub mod Settled
