@@ -2,20 +2,24 @@
 -- the set of phys that are reached and their number. Assumes nothing.
 use Prim.Native.Nat.{ℕ, _/_, _%_, _≤_}
 use native.Mathlib.Omega.{arith}
-use mathlib.Core.Path.{_≡_}
+use mathlib.Core.Path.{_≡_, refl}
+use mathlib.Core.Bool.{not}
 use mathlib.Core.List.{List}
 use lib.Count.{ones-le}
+use lib.Dec.{ltb}
 use lib.ListN.{length}
 use Rattle.model.specs.declared.House.{House}
 use Rattle.model.specs.declared.House.the-variants.{PhyNumber, PhyGroup, IllegalTable, SourceGroup, ShortBuffer}
 use Rattle.model.specs.declared.House.the-variants.{BadFrame, NoSuchPhy, EventSource, Amount}
+use Rattle.model.specs.declared.Reach.the-variants.{Reaches, NoReach}
 use Rattle.model.specs.declared.Shelf.{Shelf}
 use Rattle.model.specs.House.{houseNumber}
 use Rattle.model.specs.Reach.{reachSet, reachNumber, reachQuery}
-use Rattle.model.specs.Server.{Sends, handle, answer}
+use Rattle.model.specs.Server.{Reply, Refuses, Sends, handle, answer, served}
 use Rattle.model.proofs.Demands.Frames.{response-framed}
+use Rattle.model.proofs.Laws.Tests.{check-both}
 use Rattle.model.proofs.Plain.Reach.{reach-answered, reach-ones, reach-set-fits}
-use Rattle.host.specs.Told.{refusedTold, answerTold, reachTold}
+use Rattle.host.specs.Told.{refusedTold, answerTold, reachTold, AnswerFits, ReachFits}
 
 -- a house refusal has bit 31, and its number in the four low bits
 pub refused-read : (house : House) → (refusedTold house / 0x80000000 ≡ 1) × (refusedTold house % 0x10 ≡ houseNumber house)
@@ -44,3 +48,20 @@ reach-read s g group =
     let fits = reach-set-fits s g in
     let few = ones-le 24 (reachSet s g) fits in
     rw (reach-answered s g group, reach-ones s g) (omega (arith, fits, few), omega (arith, fits, few), omega (arith, fits, few))
+
+-- ---- The server's answers have room in the number
+
+pub answer-fits : (s : Shelf) (g : ℕ) (frame out : List ℕ) → AnswerFits (served s g frame out .answer)
+unfolding served
+answer-fits s g frame out = go (handle s g frame (length out) .reply) refl
+  where
+    go : (reply : Reply) → handle s g frame (length out) .reply ≡ reply → AnswerFits (answer reply)
+    go (Refuses house) e = tt
+    go (Sends bytes) e = response-framed s g frame (length out) bytes e .longest
+
+pub reach-fits : (s : Shelf) (g : ℕ) → ReachFits (reachQuery s g)
+unfolding reachQuery
+reach-fits s g =
+    let fits = reach-set-fits s g in
+    check-both ReachFits (not (ltb 31 g)) (NoReach SourceGroup) (Reaches (reachSet s g) (reachNumber s g)) tt
+    (fits, rw (reach-ones s g) (ones-le 24 (reachSet s g) fits))

@@ -1,3 +1,2 @@
--- What C is told, and what answering a request leaves in the lent buffer and in the words.
+-- What C is told.
 pub mod Told
-pub mod Answers

@@ -1,18 +1,14 @@
 -- What C is told: one number of 32 bits. Bit 31 says that it is a house refusal, whose number, 1 to 9, is in the low bits; where it is
 -- not set, the number is what was asked for.
-use Prim.Native.Nat.{ℕ, _+_, _*_}
-use mathlib.Core.List.{List}
+use Prim.Native.Nat.{ℕ, _+_, _*_, _≤_, _<_}
 use Rattle.model.specs.declared.Answer.{Answer}
 use Rattle.model.specs.declared.Answer.the-variants.{Response, NoResponse}
 use Rattle.model.specs.declared.House.{House}
-use Rattle.model.specs.declared.Outcome.{Outcome}
 use Rattle.model.specs.declared.Reach.{Reach}
 use Rattle.model.specs.declared.Reach.the-variants.{Reaches, NoReach}
-use Rattle.model.specs.declared.Shelf.{Shelf}
 use Rattle.model.specs.declared.Taken.{Taken}
 use Rattle.model.specs.declared.Taken.the-variants.{Done, NotDone}
 use Rattle.model.specs.House.{houseNumber}
-use Rattle.words.specs.Words.{wordsOf}
 
 abbrev pub refusedTold : House → ℕ
 refusedTold house = 0x80000000 + houseNumber house
@@ -32,10 +28,11 @@ abbrev pub reachTold : Reach → ℕ
 reachTold (Reaches phys number) = number * 0x1000000 + phys
 reachTold (NoReach house) = refusedTold house
 
-abbrev pub startedAs : List ℕ → Taken → Shelf → List ℕ
-startedAs ws Done s = wordsOf s
-startedAs ws (NotDone house) s = ws
+-- What `answer_told` and `reach_told` ask of what they code, and what the server's answers have (proofs/Coding.antt): room in their bits.
+abbrev pub AnswerFits : Answer → Type 0
+AnswerFits (Response size) = size ≤ 400
+AnswerFits (NoResponse house) = Unit {0}
 
--- The words after a start: those of the fresh shelf; or, where it is refused, as they were: "A refused start gives no device."
-abbrev pub startedWords : List ℕ → Outcome → List ℕ
-startedWords ws outcome = startedAs ws (outcome .taken) (outcome .shelf)
+abbrev pub ReachFits : Reach → Type 0
+ReachFits (Reaches phys number) = (phys < 0x1000000) × (number ≤ 24)
+ReachFits (NoReach house) = Unit {0}

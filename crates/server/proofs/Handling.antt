@@ -7,12 +7,13 @@ use borrow.Author.Tests.{lt-ltb, le-ltb}
 use denote.Enum.Declared.{tagOf}
 use lib.ListN.{length}
 use types.Run.{OneOf, miss}
+use Rattle.model.specs.declared.Answer.{Answer}
+use Rattle.model.specs.declared.Answer.the-variants.{Response}
 use Rattle.model.specs.declared.FunctionResult.{FunctionResult}
 use Rattle.model.specs.declared.House.the-variants.{SourceGroup, ShortBuffer}
 use Rattle.model.specs.declared.Judged.{Judged}
 use Rattle.model.specs.declared.Judged.the-variants.{Asked, NoFrame, Fails}
 use Rattle.model.specs.declared.Request.{Request}
-use Rattle.model.specs.declared.Served.{Served}
 use Rattle.model.specs.declared.Shelf.{Shelf}
 use Rattle.model.specs.Reply.{failed, respond}
 use Rattle.model.specs.Request.{functionOf, judge}
@@ -20,6 +21,8 @@ use Rattle.model.specs.Results.{resultCode, accepted, decide}
 use Rattle.model.specs.Server.{Handled, Sends, refuse, fail, conclude, handleJudged, handle, answer, lent, served, lentAfter}
 use Rattle.model.specs.Writes.{effect}
 use Rattle.model.proofs.Judged.{the-type}
+use Rattle.words.specs.Words.{shelfOf, laidOver}
+use Rattle.server.specs.Answers.{Answers}
 use Rattle.server.specs.Serving.{judgedReply, drawn, leaves}
 
 -- the variants but `Asked`, by their places in the enum
@@ -30,25 +33,29 @@ others = 1 ∷ 2 ∷ []
 abbrev pub NotAsked : Judged → Type 0
 NotAsked judged = OneOf others (tagOf the-type judged)
 
-module _ (s : Shelf) (g : ℕ) (frame out : List ℕ) where
-  -- both halves of what `serve` promises
-  abbrev pub Serves : Served → List ℕ → Type 0
-  Serves told left = (told ≡ served s g frame out) × (left ≡ lentAfter s g frame out)
+module _ (ws : List ℕ) (g : ℕ) (frame out : List ℕ) where
+  abbrev s : Shelf
+  s = shelfOf ws
 
-  -- how a request was handled settles both
-  serves : (h : Handled) → handle s g frame (length out) ≡ h
-      → Serves (record { answer = answer (h .reply); shelf = h .shelf }) (lent out (h .reply))
+  -- all that `serve` promises: the answer, the words and the buffer
+  abbrev pub Serves : Answer → List ℕ → List ℕ → Type 0
+  Serves told words left =
+      (told ≡ served s g frame out .answer)
+      × ((words ≡ laidOver ws (served s g frame out .shelf)) × (left ≡ lentAfter s g frame out))
+
+  -- how a request was handled settles all three
+  serves : (h : Handled) → handle s g frame (length out) ≡ h → {told : Answer} {words left : List ℕ}
+      → told ≡ answer (h .reply) → words ≡ laidOver ws (h .shelf) → left ≡ lent out (h .reply) → Serves told words left
   unfolding served lentAfter
-  serves h e = rw e (refl, refl)
+  serves h e told kept left = rw e (told, (kept, left))
 
-  pub serves-H4 : 31 < g → Serves (record { answer = answer (refuse s SourceGroup .reply); shelf = s }) out
+  pub serves-H4 : 31 < g → ws ≡ laidOver ws s → Serves (answer (refuse s SourceGroup .reply)) ws out
   unfolding handle
-  serves-H4 above = serves (refuse s SourceGroup) (rw (lt-ltb 31 g above))
+  serves-H4 above same = serves (refuse s SourceGroup) (rw (lt-ltb 31 g above)) refl same refl
 
-  pub serves-H5 : g ≤ 31 → length out < 1028
-      → Serves (record { answer = answer (refuse s ShortBuffer .reply); shelf = s }) out
+  pub serves-H5 : g ≤ 31 → length out < 1028 → ws ≡ laidOver ws s → Serves (answer (refuse s ShortBuffer .reply)) ws out
   unfolding handle
-  serves-H5 group short = serves (refuse s ShortBuffer) (rw (le-ltb 31 g group, lt-ltb (length out) 1028 short))
+  serves-H5 group short same = serves (refuse s ShortBuffer) (rw (le-ltb 31 g group, lt-ltb (length out) 1028 short)) refl same refl
 
   -- past H4 and H5 the judgement decides
   module _ (group : g ≤ 31) (room : 1028 ≤ length out) where
@@ -63,10 +70,10 @@ module _ (s : Shelf) (g : ℕ) (frame out : List ℕ) where
     turned (NoFrame house) e = refl
     turned (Fails result) e = refl
 
-    pub serves-judged : NotAsked (judge frame)
-        → Serves (record { answer = answer (judgedReply (functionOf frame) (judge frame)); shelf = s })
-        (lent out (judgedReply (functionOf frame) (judge frame)))
-    serves-judged other = serves _ (judged-handled ∙ turned (judge frame) other)
+    pub serves-judged : NotAsked (judge frame) → ws ≡ laidOver ws s → {told : Answer} {left : List ℕ}
+        → let reply = judgedReply (functionOf frame) (judge frame) in
+        told ≡ answer reply → left ≡ lent out reply → Serves told ws left
+    serves-judged other same told left = serves _ (judged-handled ∙ turned (judge frame) other) told same left
 
     -- a request that was read: its result draws the response and leaves the shelf
     conclude-halves : (request : Request) (result : FunctionResult)
@@ -83,11 +90,13 @@ module _ (s : Shelf) (g : ℕ) (frame out : List ℕ) where
         go true = refl
         go false = refl
 
-    pub serves-asked : (request : Request) → judge frame ≡ Asked request
-        → let bytes = drawn s g request (functionOf frame) (decide s g frame request) in
-        Serves
-        (record { answer = answer (Sends bytes); shelf = leaves s frame request (decide s g frame request) })
-        (lent out (Sends bytes))
-    serves-asked request asks =
+    pub serves-asked : (request : Request) → judge frame ≡ Asked request → {size : ℕ} {words left : List ℕ}
+        → Answers out (drawn s g request (functionOf frame) (decide s g frame request)) size left
+        → words ≡ laidOver ws (leaves s frame request (decide s g frame request))
+        → Serves (Response size) words left
+    serves-asked request asks sent kept =
         serves _
         (judged-handled ∙ ap (handleJudged s g frame) asks ∙ conclude-halves request (decide s g frame request))
+        (ap Response (sent .0))
+        kept
+        (sent .1)

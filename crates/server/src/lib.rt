@@ -1,72 +1,156 @@
-// The server: one request in, one answer and the next shelf out.
+// The server: start, requests, reports, notices and the reach query, on a shelf that its caller keeps in 548 words
+// (crate `words`) and lends to each call.
 //
-// Data flows one way. The frame is judged (crate `gate`); the judged request is decided from pieces of
-// the shelf (`decide`, crate `results`); the result draws the response (crate `responses`) and, where it
-// is accepted, has its effect on the shelf (crate `effects`). `serve` is proved equal to `served` of the
-// model, and what the lent buffer then holds to `lentAfter`. It asks nothing of its caller.
-mod conclude;
-mod decide;
+// The shelf stays where it is. Each function takes the pieces that it needs out of the words, has the other crates
+// decide and count on them by value, and puts back at most one phy's record and the counts. Data flows one way: the
+// frame is judged (crate `gate`), the judged request is decided from pieces of the shelf (crate `results`), the result
+// draws the response and, where it is accepted, has its effect.
+//
+// Each promise says all of what the call comes to, by the model's definitions of the shelf that the words stand for: the
+// answer, the words afterwards and, for `serve`, the lent buffer afterwards. None asks anything of its caller.
+mod pieces;
+mod reach;
+mod reads;
+mod request;
+mod writing;
 
-use crate::conclude::next_shelf;
-use crate::conclude::reply;
-use crate::decide::decide;
+use crate::reach::reach_set;
+use crate::request::serve_asked;
+use crate::request::turned_away;
+use counters::counts::originate;
+use counters::phy::change_on;
+use counters::phy::event_on;
+use counters::report::event_taken;
 use gate::bytes::byte_at;
 use gate::frame::judge;
 use model::Answer;
 use model::House;
 use model::Judged;
-use model::Served;
-use model::Shelf;
-use responses::send_result;
+use model::Reach;
+use model::Taken;
+use shelf::phys::exists;
+use shelf::start::start_taken;
+use words::WORDS;
+use words::fresh::lay_fresh;
+use words::read::low16;
+use words::read::phy_at;
+use words::store::put;
+use words::store::put_device;
 ghost use mathlib.Core.Path.{_≡_};
-ghost use Prim.Native.Nat.{_≤_};
-ghost use lib.ListN.{length};
-ghost use Rattle.model.specs.Server.{answer, lent, served, lentAfter};
-ghost use Rattle.server.specs.Serving.{judgedReply};
+ghost use mathlib.Core.Bool.{cond};
+ghost use Rattle.model.specs.Reports.{event, linkChange, reducedFunctionality, sesNotice};
+ghost use Rattle.model.specs.Reach.{reachQuery};
+ghost use Rattle.model.specs.Server.{served, lentAfter};
+ghost use Rattle.model.specs.Shelf.{start};
+ghost use Rattle.words.specs.Words.{shelfOf, laidOver, startedWords};
 
-// What is answered where no request could be read from the frame: H6, or 01h or 03h in a failed response.
-fn turned_away(judged: Judged, function: u8, out: &mut [u8]) -> Answer
-    requires { ⌜ 1028 ≤ length (now out) ⌝ }
-    ensures told { λ r. ⌜ r ≡ answer (judgedReply function judged) ⌝ }
-    ensures left { λ _. ⌜ now (out .exit) ≡ lent (now (out .entry)) (judgedReply function judged) ⌝ }
+// A start: the words of the fresh shelf are written; or it is refused, H1, H2 or H3, and they are as they were.
+pub fn start(
+    words: &mut [u32; WORDS],
+    number: u32,
+    groups: [u32; 24],
+    table: [u32; 32],
+    identifier: [u8; 8],
+) -> Taken
+    ensures told { λ r. ⌜ r ≡ start number groups table identifier .taken ⌝ }
+    ensures kept { λ _. ⌜ now (words .exit) ≡ startedWords (now (words .entry)) (start number groups table identifier) ⌝ }
 {
-    match judged {
-        // never run: `serve` has taken the request out before
-        Judged::Asked(_) => Answer::Response(0),
-        Judged::NoFrame(house) => Answer::NoResponse(house),
-        Judged::Fails(result) => Answer::Response(send_result(function, result, out)),
-    }
+    let taken = start_taken(number, groups, table);
+    let Taken::Done = taken else {
+        return taken;
+    };
+    lay_fresh(words, number, groups, table, identifier);
+    Taken::Done
 }
 
-// One request: source group, request frame and lent buffer give the answer and the next shelf, and the
-// response in the buffer. H4, H5, then H6 and the function results in their order.
-pub fn serve(shelf: Shelf, source: u32, frame: &[u8], out: &mut [u8]) -> Served
-    ensures told { λ r. ⌜ r ≡ served shelf source (now (frame .entry)) (now (out .entry)) ⌝ }
-    ensures left { λ _. ⌜ now (out .exit) ≡ lentAfter shelf source (now (frame .entry)) (now (out .entry)) ⌝ }
+// One request: source group, request frame and lent buffer. The answer is the length of the response in the buffer, or
+// H4, H5, H6, in this order.
+pub fn serve(words: &mut [u32; WORDS], source: u32, frame: &[u8], out: &mut [u8]) -> Answer
+    ensures told { λ r. ⌜ r ≡ served (shelfOf (now (words .entry))) source (now (frame .entry)) (now (out .entry)) .answer ⌝ }
+    ensures kept { λ _.
+        ⌜ now (words .exit)
+        ≡ laidOver (now (words .entry)) (served (shelfOf (now (words .entry))) source (now (frame .entry)) (now (out .entry)) .shelf) ⌝ }
+    ensures left { λ _.
+        ⌜ now (out .exit)
+        ≡ lentAfter (shelfOf (now (words .entry))) source (now (frame .entry)) (now (out .entry)) ⌝ }
 {
+    let all: &[u32] = words;
     if 31 < source {
-        return Served {
-            answer: Answer::NoResponse(House::SourceGroup),
-            shelf,
-        };
+        return Answer::NoResponse(House::SourceGroup);
     }
     if out.len() < 1028 {
-        return Served {
-            answer: Answer::NoResponse(House::ShortBuffer),
-            shelf,
-        };
+        return Answer::NoResponse(House::ShortBuffer);
     }
     let function = byte_at(frame, 1);
     let judged = judge(frame);
     let Judged::Asked(request) = judged else {
-        return Served {
-            answer: turned_away(judged, function, out),
-            shelf,
-        };
+        return turned_away(judged, function, out);
     };
-    let result = decide(shelf, source, frame, request);
-    Served {
-        answer: Answer::Response(reply(shelf, source, request, function, result, out)),
-        shelf: next_shelf(shelf, frame, request, result),
+    Answer::Response(serve_asked(words, source, frame, request, function, out))
+}
+
+// An event report: the phy that it names counts it, or it is refused, and the shelf is as it was.
+pub fn event(words: &mut [u32; WORDS], phy: u32, source: u32, amount: u32) -> Taken
+    ensures told { λ r. ⌜ r ≡ event (shelfOf (now (words .entry))) phy source amount .taken ⌝ }
+    ensures kept { λ _.
+        ⌜ now (words .exit)
+        ≡ laidOver (now (words .entry)) (event (shelfOf (now (words .entry))) phy source amount .shelf) ⌝ }
+{
+    let all: &[u32] = words;
+    let taken = event_taken(exists(all[0], phy), source, amount);
+    let Taken::Done = taken else {
+        return taken;
+    };
+    let changes = low16(all[1]);
+    let after = event_on(source, amount, phy_at(words, phy));
+    put(words, phy, after, changes);
+    Taken::Done
+}
+
+// A link change on a phy, enabled or not: it originates Change, and the change count moves. Or H7.
+pub fn link_change(words: &mut [u32; WORDS], phy: u32) -> Taken
+    ensures told { λ r. ⌜ r ≡ linkChange (shelfOf (now (words .entry))) phy .taken ⌝ }
+    ensures kept { λ _.
+        ⌜ now (words .exit)
+        ≡ laidOver (now (words .entry)) (linkChange (shelfOf (now (words .entry))) phy .shelf) ⌝ }
+{
+    let all: &[u32] = words;
+    if !exists(all[0], phy) {
+        return Taken::NotDone(House::NoSuchPhy);
+    }
+    let changes = originate(low16(all[1]));
+    let before = phy_at(words, phy);
+    put(words, phy, change_on(before.enabled, before), changes);
+    Taken::Done
+}
+
+// A device notice: SES, or reduced functionality. It has no refusal.
+pub fn notice(words: &mut [u32; WORDS], ses: bool)
+    ensures { λ _.
+        ⌜ now (words .exit)
+        ≡ laidOver (now (words .entry))
+        (cond ses (sesNotice (shelfOf (now (words .entry)))) (reducedFunctionality (shelfOf (now (words .entry))))) ⌝ }
+{
+    let expander3 = low16(words[2]);
+    let ses0 = low16(words[3]);
+    if ses {
+        put_device(words, expander3, originate(ses0));
+        return;
+    }
+    put_device(words, originate(expander3), ses0);
+}
+
+// The reach query: the set of phys that a source group reaches and how many they are, which is the count of ones of the
+// set. Or H4.
+pub fn reach_query(words: &[u32; WORDS], source: u32) -> Reach
+    ensures { λ r. ⌜ r ≡ reachQuery (shelfOf (now (words .entry))) source ⌝ }
+{
+    if 31 < source {
+        return Reach::NoReach(House::SourceGroup);
+    }
+    let phys = reach_set(words, source);
+    Reach::Reaches {
+        phys,
+        number: u32::count_ones(phys),
     }
 }

@@ -1,97 +1,20 @@
--- `host::smp_event` meets its contract: where it is done one phy is put back changed, and where not the words stay.
--- Assumes nothing.
+-- `host::smp_event` meets its contract: what the server tells, coded. Assumes nothing.
 use borrow.Author.Needs.{needs}
-use native.Mathlib.Omega.{arith}
-use mathlib.Core.Path.{_≡_, refl, sym, ap, _∙_}
-use Rattle.model.specs.Reports.{eventTaken, event}
-use Rattle.model.specs.Shelf.{exists}
-use Rattle.words.specs.Words.{shelfOf}
-use Rattle.words.proofs.Laying.{laid-same}
+use mathlib.Core.Path.{ap, _∙_}
 use Rattle.host.specs.Told.{takenTold}
-use Rattle.host.proofs.Numbers.{changes-read}
 use Rattle.host.proofs.smp_event.Statement.{statement}
 use Rattle.host.proofs.smp_event.Tie as tie
 
-shared-slice-read-exists : tie.Need-shared-slice-read-exists
-shared-slice-read-exists c = search needs
-
-exists-requires : tie.Need-exists-requires
-exists-requires c κs = search needs
-
-event-taken-requires : tie.Need-event-taken-requires
-event-taken-requires c κs = search needs
-
-enum-told : tie.Need-enum-told
-enum-told c = search needs
-
-enum-told-2 : tie.Need-enum-told-2
-enum-told-2 c = search needs
+event-requires : tie.Need-event-requires
+event-requires c κs = search needs
 
 taken-told-requires : tie.Need-taken-told-requires
 taken-told-requires c κs = search needs
 
--- what is told is the definition's, of this shelf and report
-taken-is : (c : tie.After-event-taken)
-    → let a = c .before .before .before .before .before .args in
-    c .event-taken .result ≡ eventTaken (exists (shelfOf (a .shelf .now)) (a .phy)) (a .source) (a .amount)
-unfolding shelfOf
-taken-is c = rw (← c .before .exists .ensures) (c .event-taken .ensures)
-
 returns : tie.Need-returns
-unfolding event
 returns c =
-    let told = c .before .before .before in
-    let a = told .before .before .before .before .before .args in
-    rw (sym (taken-is told) ∙ c .before .enum-told2 .given .1)
-    (c .taken-told .ensures ∙ ap takenTold (c .before .enum-told2 .given .1), sym (laid-same (a .shelf .now) (omega arith)))
-
-shared-slice-read-low16 : tie.Need-shared-slice-read-low16
-shared-slice-read-low16 c = search needs
-
-low16-requires : tie.Need-low16-requires
-low16-requires c κs = search needs
-
-phy-at-requires : tie.Need-phy-at-requires
-phy-at-requires c κs = search needs
-
-event-on-requires : tie.Need-event-on-requires
-event-on-requires c κs = search needs
-
-put-requires : tie.Need-put-requires
-put-requires c κs = search needs
-
-returns-2 : tie.Need-returns-2
-unfolding event
-returns-2 c =
-    let changed = c .before .before in
-    let read = changed .before in
-    let counted = read .before .before in
-    let done = counted .before .before in
-    let a = done .before .before .before .before .before .before .before .args in
-    rw (
-      sym (taken-is (done .before .before)) ∙ done .enum-told .given .1,
-      c .put .ensures,
-      changed .event-on .ensures,
-      read .phy-at .ensures,
-      counted .low16 .ensures,
-      changes-read (a .shelf .now),
-    )
-    (refl, refl)
+    let served = c .before in
+    (c .taken-told .ensures ∙ ap takenTold (served .event .ensures .0), served .event .ensures .1)
 
 pub smp-event-spec : {M : Type 1} → statement M
-smp-event-spec =
-    tie.close
-    (tie.spec
-    shared-slice-read-exists
-    exists-requires
-    event-taken-requires
-    enum-told
-    enum-told-2
-    taken-told-requires
-    returns
-    shared-slice-read-low16
-    low16-requires
-    phy-at-requires
-    event-on-requires
-    put-requires
-    returns-2)
+smp-event-spec = tie.close (tie.spec event-requires taken-told-requires returns)

@@ -1,89 +1,20 @@
--- `host::smp_link_change` meets its contract: where the phy exists it is put back changed, and where not the words stay.
--- Assumes nothing.
+-- `host::smp_link_change` meets its contract: what the server tells, coded. Assumes nothing.
 use borrow.Author.Needs.{needs}
-use native.Mathlib.Omega.{arith}
-use borrow.Author.Tests.{not-true, not-false}
-use mathlib.Core.Path.{_≡_, refl, sym, _∙_}
-use Rattle.model.specs.Reports.{linkChange}
-use Rattle.model.specs.Shelf.{exists}
-use Rattle.words.specs.Words.{shelfOf}
-use Rattle.words.proofs.Laying.{laid-same}
-use Rattle.host.proofs.Numbers.{changes-read}
+use mathlib.Core.Path.{ap, _∙_}
+use Rattle.host.specs.Told.{takenTold}
 use Rattle.host.proofs.smp_link_change.Statement.{statement}
 use Rattle.host.proofs.smp_link_change.Tie as tie
 
-shared-slice-read-exists : tie.Need-shared-slice-read-exists
-shared-slice-read-exists c = search needs
-
-exists-requires : tie.Need-exists-requires
-exists-requires c κs = search needs
+link-change-requires : tie.Need-link-change-requires
+link-change-requires c κs = search needs
 
 taken-told-requires : tie.Need-taken-told-requires
 taken-told-requires c κs = search needs
 
--- the phy exists on this shelf, or not
-exists-is : (c : tie.After-exists)
-    → let a = c .before .before .before .before .args in
-    c .exists .result ≡ exists (shelfOf (a .shelf .now)) (a .phy)
-unfolding shelfOf
-exists-is c = c .exists .ensures
-
 returns : tie.Need-returns
-unfolding linkChange
 returns c =
-    let tested = c .before .before in
-    let a = tested .before .before .before .before .args in
-    rw (sym (exists-is tested) ∙ not-true _ (c .before .if1 .taken)) (c .taken-told .ensures, sym (laid-same (a .shelf .now) (omega arith)))
-
-shared-slice-read-low16 : tie.Need-shared-slice-read-low16
-shared-slice-read-low16 c = search needs
-
-low16-requires : tie.Need-low16-requires
-low16-requires c κs = search needs
-
-originate-requires : tie.Need-originate-requires
-originate-requires c κs = search needs
-
-phy-at-requires : tie.Need-phy-at-requires
-phy-at-requires c κs = search needs
-
-change-on-requires : tie.Need-change-on-requires
-change-on-requires c κs = search needs
-
-put-requires : tie.Need-put-requires
-put-requires c κs = search needs
-
-returns-2 : tie.Need-returns-2
-unfolding linkChange
-returns-2 c =
-    let changed = c .before in
-    let read = changed .before .before in
-    let moved = read .before .before in
-    let there = moved .before .before .before in
-    let a = there .before .before .before .before .before .args in
-    rw (
-      sym (exists-is (there .before)) ∙ not-false _ (there .if1 .left),
-      c .put .ensures,
-      changed .change-on .ensures,
-      read .phy-at .ensures,
-      moved .originate .ensures,
-      moved .before .low16 .ensures,
-      changes-read (a .shelf .now),
-    )
-    (refl, refl)
+    let served = c .before in
+    (c .taken-told .ensures ∙ ap takenTold (served .link-change .ensures .0), served .link-change .ensures .1)
 
 pub smp-link-change-spec : {M : Type 1} → statement M
-smp-link-change-spec =
-    tie.close
-    (tie.spec
-    shared-slice-read-exists
-    exists-requires
-    taken-told-requires
-    returns
-    shared-slice-read-low16
-    low16-requires
-    originate-requires
-    phy-at-requires
-    change-on-requires
-    put-requires
-    returns-2)
+smp-link-change-spec = tie.close (tie.spec link-change-requires taken-told-requires returns)
