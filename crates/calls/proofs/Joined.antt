@@ -1,110 +1,176 @@
--- The two halves joined. The code keeps its promises, and the model's runs meet the demands. Here: a run of the code goes, call by call,
--- exactly as the model's run (`run-last`, `run-answers`, and for reporters `heard-reported`), and so the invariant and demand 3 hold of what
--- the code returns (`run-sound`, `calls-demand-3`). Assumes nothing.
-use Prim.Native.Nat.{ℕ}
-use mathlib.Core.Path.{_≡_, refl, sym, ap, subst, _∙_}
-use mathlib.Core.List.{List, [], _∷_}
-use contract.Lifetimes.{Lfts}
-use borrow.Fn.Kinds.{Dens}
-use Rattle.model.specs.declared.Shelf.{Shelf}
-use Rattle.model.specs.declared.Taken.{Taken}
-use Rattle.model.specs.declared.Taken.the-variants.{Done}
+-- The two halves joined: the code keeps its promises, and the model meets the demands. So the demands hold of what is linked, of the words,
+-- the answers and the lent buffers that it leaves. These are the statements to cite. Each is of all that can be linked (`Linked`), and of
+-- calls and starts as values, of which nothing is known but that the promises allow them.
+--
+-- Nothing is asked of them but what the types say, since the numbers here have no width: a shelf's memory is 548 words of 32 bits
+-- (`Memory`; where their number is enough, `length .. ≡ 548`), a frame is bytes and an amount has 32 bits (`AllFit`, `BytesFit`), a start
+-- is given 32 rows of 32 bits and 8 bytes (`StartFits`). `Widths` has these from the toolchain's own types. Assumes nothing.
+use Prim.Native.Nat.{ℕ, _≤_}
+use mathlib.Core.Path.{_≡_, refl, ap₂, subst}
+use mathlib.Core.List.{List, [], _∷_, map}
+use lib.ListN.{length}
+use Rattle.model.specs.Bytes.{byte}
 use Rattle.model.specs.CrossedOut.{remains}
-use Rattle.model.specs.Runs.{next, after, told, answers}
-use Rattle.model.specs.Server.{served}
-use Rattle.model.specs.Settled.{Allowed}
-use Rattle.model.specs.Shelf.{start as startOf}
-use Rattle.model.proofs.Demands.Invariant.{Sound, AllFit, after-sound}
-use Rattle.model.proofs.Demands.Isolation.{demand-3}
-use Rattle.shelf.proofs.Settled.{start-settled}
-use Rattle.shelf.proofs.start.start
-use Rattle.calls.specs.Calls.{
-  Call,
-  serve-call,
-  event-call,
-  link-change-call,
-  reduced-functionality-call,
-  ses-notice-call,
-  reach-query-call,
-  handed,
-  back,
-  operation,
-  got,
-  heard,
-  reported,
-  RunFrom,
-  operations,
-  last,
-  gotAll,
-}
+use Rattle.model.specs.Fits.{BytesFit, Sound, AllFit, StartFits}
+use Rattle.model.specs.Request.{functionOf}
+use Rattle.model.specs.Runs.{Operation, Ask, after, answers}
+use Rattle.model.proofs.Demands.Effects.{Controlled, Configured}
+use Rattle.model.proofs.Demands.Writes.{ControlPasses, ConfigurePasses}
+use Rattle.model.proofs.Laws.Lowest.{Gives}
+use Rattle.model.proofs.Laws.Places.{All}
+use Rattle.words.specs.Memory.{Memory}
+use Rattle.words.specs.Words.{shelfOf}
+use Rattle.calls.specs.Operations.{lentBefore, refusals, firstRefusal, Given, startOf, startRefusalsOf}
+use Rattle.calls.specs.Runs.{Goes, Starts, RunsAs, codedTold, RunFrom, operations, lastWords, got}
+use Rattle.calls.specs.Left.{Fails, WordsFullOrNone}
+use Rattle.calls.specs.Interface.{Interface}
+use Rattle.calls.specs.Linked.{Linked, Server, Host, interface}
+use Rattle.calls.proofs.OneCall.{goes-same, lowest-told, refusal-stays, fails, control-writes, configure-writes}
+use Rattle.calls.proofs.ManyCalls.{Go, ends, got-answers}
+use Rattle.calls.proofs.Starting.{start-lowest, start-stays, same-told, same-words}
+use Rattle.calls.proofs.Starting.{begun-goes, begun-shelf, begun-sound, begun-demand-3}
+use Rattle.calls.proofs.Follows.{Follows}
+use Rattle.calls.proofs.ServerFollows.{server-follows}
+use Rattle.calls.proofs.HostFollows.{host-follows}
 
--- One call: the shelf that came back is the model's next shelf;
-pub back-next : (call : Call) → back call ≡ next (handed call) (operation call)
-unfolding handed back operation next served
-back-next (serve-call c) = ap (λ r. r .shelf) (c .outcome .promised .0)
-back-next (event-call c) = ap (λ r. r .shelf) (c .outcome .promised)
-back-next (link-change-call c) = ap (λ r. r .shelf) (c .outcome .promised)
-back-next (reduced-functionality-call c) = c .outcome .promised
-back-next (ses-notice-call c) = c .outcome .promised
-back-next (reach-query-call c) = refl
+follows : (linked : Linked) → Follows (interface linked)
+follows Server = server-follows
+follows Host = host-follows
 
--- what a group got is what the model tells it;
-pub got-told : (g : ℕ) (call : Call) → got g call ≡ told g (handed call) (operation call)
-unfolding handed operation got told
-got-told g (serve-call c) = rw (c .outcome .promised .0, c .outcome .promised .1)
-got-told g (event-call c) = refl
-got-told g (link-change-call c) = refl
-got-told g (reduced-functionality-call c) = refl
-got-told g (ses-notice-call c) = refl
-got-told g (reach-query-call c) = rw (c .outcome .promised)
+module _ (linked : Linked) where
+  open Interface (interface linked) using (coded, refusal, Call, seen, Start, started)
 
--- and what a reporter was told is what the model tells him.
-pub heard-reported : (call : Call) → heard call ≡ reported (handed call) (operation call)
-unfolding handed operation heard reported
-heard-reported (serve-call c) = refl
-heard-reported (event-call c) = rw (c .outcome .promised)
-heard-reported (link-change-call c) = rw (c .outcome .promised)
-heard-reported (reduced-functionality-call c) = refl
-heard-reported (ses-notice-call c) = refl
-heard-reported (reach-query-call c) = refl
+  -- ---- One call
 
--- the first of these, where the shelf that was handed in is known
-back-from : (s : Shelf) (call : Call) → handed call ≡ s → back call ≡ next s (operation call)
-back-from s call from = back-next call ∙ ap (λ t. next t (operation call)) from
+  -- It goes as the model does on the shelf that the words stand for: words, answer and lent buffer. So does a start.
+  pub call-goes : (call : Call) → let c = seen call in length (c .before) ≡ 548 → Goes coded (shelfOf (c .before)) c
+  call-goes call = follows linked .goes call
 
--- A run: the shelf that came back last is the model's,
-pub run-last : (s : Shelf) (calls : List Call) → RunFrom s calls → last s calls ≡ after s (operations calls)
-unfolding RunFrom operations last after
-run-last s [] run = refl
-run-last s (call ∷ calls) (from, rest) =
-    run-last (back call) calls rest ∙ ap (λ t. after t (operations calls)) (back-from s call from)
+  pub start-goes : (x : Start) → Starts coded (started x)
+  start-goes x = follows linked .starts x
 
--- and what a group got are the model's answers.
-pub run-answers : (g : ℕ) (s : Shelf) (calls : List Call) → RunFrom s calls → gotAll g calls ≡ answers g s (operations calls)
-unfolding RunFrom operations gotAll answers
-run-answers g s [] run = refl
-run-answers g s (call ∷ calls) (from, rest) =
-    let now : got g call ≡ told g s (operation call) = got-told g call ∙ ap (λ t. told g t (operation call)) from in
-    rw (now, run-answers g (back call) calls rest, back-from s call from)
+  -- Two calls that are handed the same words and asked the same are seen the same: no word, no answer and no byte of the buffer depends on
+  -- where memory lies, nor on lifetimes. To a start that is taken, what the memory held before does not matter either.
+  pub call-same : (one other : Call) → let c = seen one in let d = seen other in length (c .before) ≡ 548
+      → c .before ≡ d .before → c .asked ≡ d .asked → c ≡ d
+  call-same one other long same =
+      goes-same coded (seen one) (seen other) (call-goes one long) (call-goes other (subst (λ ws. length ws ≡ 548) same long)) same
 
--- So the invariant holds of what the code returns: from a sound shelf, a run with bytes and 32-bit amounts leaves a sound one.
-pub run-sound : (s : Shelf) (calls : List Call) → RunFrom s calls → AllFit (operations calls) → Sound s → Sound (last s calls)
-run-sound s calls run fit sound = subst Sound (sym (run-last s calls run)) (after-sound s (operations calls) fit sound)
+  pub start-same : (one other : Start) → let x = started one in let y = started other in x .asked ≡ y .asked
+      → (x .told ≡ y .told) × (refusal (x .told) ≡ 0 → x .after ≡ y .after)
+  start-same one other same =
+      let reads = follows linked .reads-start in (
+        same-told coded refusal reads (started one) (started other) (start-goes one) (start-goes other) same,
+        same-words coded refusal reads (started one) (started other) (start-goes one) (start-goes other) same,
+      )
 
--- Demand 3 of what the code returns. Two shelves were started with the same arguments, and each was then run. If what remains of the
--- two runs is the same for a group, that group got the same in both, with all that its lent buffers then held.
-pub calls-demand-3 : (κs : Lfts 0) (arguments : Dens κs start.Kinds.ps)
-    (x y : Allowed start.Kinds.ps start.Kinds.r start.Reads.Post κs arguments) → x .result .taken ≡ Done
-    → (g : ℕ) (one other : List Call) → RunFrom (x .result .shelf) one → RunFrom (y .result .shelf) other
-    → remains g (x .result .shelf) (operations one) ≡ remains g (y .result .shelf) (operations other)
-    → gotAll g one ≡ gotAll g other
-calls-demand-3 κs arguments x y done g one other run-one run-other same =
-    let s : Shelf = x .result .shelf in
-    let same-start : y .result .shelf ≡ s = ap (λ r. r .shelf) (start-settled .same-result κs arguments y x) in
-    let started : startOf (arguments .0) (arguments .1 .0) (arguments .1 .1 .0) (arguments .1 .1 .1 .0) ≡ record { taken = Done; shelf = s } =
-    sym (x .promised) ∙ ap (λ (t : Taken). record { taken = t; shelf = s }) done in
-    let same-remains : remains g s (operations one) ≡ remains g s (operations other) =
-    same ∙ ap (λ t. remains g t (operations other)) same-start in
-    run-answers g s one run-one
-    ∙ demand-3 _ _ _ _ s started g (operations one) (operations other) same-remains
-    ∙ sym (run-answers g s other (subst (λ t. RunFrom t other) same-start run-other))
+  -- "The lowest number that applies is given."
+  pub call-refusal : (call : Call) → let c = seen call in length (c .before) ≡ 548
+      → Gives (refusals (shelfOf (c .before)) (c .asked)) (firstRefusal (c .asked)) (refusal (c .told))
+  call-refusal call long = lowest-told coded (seen call) (call-goes call long) refusal (follows linked .reads)
+
+  pub start-refusal : (x : Start) → Gives (startRefusalsOf (started x .asked)) 1 (refusal (started x .told))
+  start-refusal x = start-lowest coded refusal (follows linked .reads-start) (started x) (start-goes x)
+
+  -- "The answer holds the number and nothing else; state and buffer stay. A refused start gives no device."
+  pub call-refused : (call : Call) → let c = seen call in length (c .before) ≡ 548
+      → 1 ≤ refusal (c .told) → (c .after ≡ c .before) × (c .buffer ≡ lentBefore (c .asked))
+  call-refused call long = refusal-stays coded (seen call) (call-goes call long) refusal (follows linked .reads) long
+
+  pub start-refused : (x : Start) → 1 ≤ refusal (started x .told) → started x .after ≡ started x .before
+  start-refused x = start-stays coded refusal (follows linked .reads-start) (started x) (start-goes x)
+
+  -- a request of group g that draws no house refusal
+  module _ (call : Call) (g : ℕ) (frame out : List ℕ) (asks : seen call .asked ≡ Ask g frame out)
+      (answered : refusal (seen call .told) ≡ 0) where
+    -- "A failed response is 41h, the function, the result, 00h. The buffer past any response is unchanged", and so is every word.
+    pub call-failed : let c = seen call in length (c .before) ≡ 548
+        → (code : ℕ) → byte (c .buffer) 2 ≡ code → 1 ≤ code → Fails coded frame out code c
+    call-failed long =
+        fails coded (seen call) (call-goes call long) refusal (follows linked .reads) g frame out asks answered long
+
+    -- "A write that draws no house refusal takes its full effect exactly when its length, count, phy, zone and contents all pass, and
+    -- otherwise has no effect at all": no word has changed.
+    pub call-control-write : let c = seen call in let s = shelfOf (c .before) in
+        Memory (c .before) → BytesFit frame → functionOf frame ≡ 0x91
+        → WordsFullOrNone (ControlPasses s g frame) (Controlled s (byte frame 9) (byte frame 10)) (c .before) (c .after)
+    call-control-write memory =
+        control-writes coded (seen call) (call-goes call (memory .size)) refusal (follows linked .reads) g frame out asks answered memory
+
+    pub call-configure-write : let c = seen call in let s = shelfOf (c .before) in
+        Memory (c .before) → BytesFit frame → functionOf frame ≡ 0x93
+        → WordsFullOrNone (ConfigurePasses s g frame) (Configured s (byte frame 9) frame) (c .before) (c .after)
+    call-configure-write memory =
+        configure-writes coded (seen call) (call-goes call (memory .size)) refusal (follows linked .reads) g frame out asks answered memory
+
+  -- ---- Calls one after another, each handed the words that the one before left
+
+  all-go : (calls : List Call) → All (Go coded) (map seen calls)
+  all-go [] = tt
+  all-go (call ∷ calls) = (follows linked .goes call, all-go calls)
+
+  -- from any words
+  module _ (ws : List ℕ) (memory : Memory ws) (calls : List Call) where
+    -- The run goes, call by call, as the model's from the shelf that the words stand for;
+    pub run-goes : let run = map seen calls in RunFrom ws run → AllFit (operations run) → RunsAs coded (shelfOf ws) run
+    run-goes from fit = ends coded ws (map seen calls) (all-go calls) from memory fit .goes
+
+    -- the words that it leaves stand for the model's last shelf;
+    pub run-shelf : let run = map seen calls in RunFrom ws run → AllFit (operations run)
+        → shelfOf (lastWords ws run) ≡ after (shelfOf ws) (operations run)
+    run-shelf from fit = ends coded ws (map seen calls) (all-go calls) from memory fit .shelf
+
+    -- and what a source group got are the model's answers to it.
+    pub run-answers : let run = map seen calls in RunFrom ws run → AllFit (operations run)
+        → (g : ℕ) → got g run ≡ map (codedTold coded) (answers g (shelfOf ws) (operations run))
+    run-answers from fit g = got-answers coded g (shelfOf ws) (map seen calls) (run-goes from fit)
+
+  -- from a start that is not refused
+  module _ (x : Start) (taken : refusal (started x .told) ≡ 0) (fit : StartFits (started x .asked .table) (started x .asked .identifier))
+      (calls : List Call) where
+    -- The run goes as the model's from the model's own fresh shelf;
+    pub started-goes : let run = map seen calls in RunFrom (started x .after) run → AllFit (operations run)
+        → RunsAs coded (startOf (started x .asked) .shelf) run
+    started-goes =
+        begun-goes coded refusal (follows linked .reads-start) (started x) (start-goes x) taken fit (map seen calls) (all-go calls)
+
+    -- the words that it leaves stand for the model's last shelf;
+    pub started-shelf : let run = map seen calls in RunFrom (started x .after) run → AllFit (operations run)
+        → shelfOf (lastWords (started x .after) run) ≡ after (startOf (started x .asked) .shelf) (operations run)
+    started-shelf =
+        begun-shelf coded refusal (follows linked .reads-start) (started x) (start-goes x) taken fit (map seen calls) (all-go calls)
+
+    -- and that one keeps the invariant.
+    pub started-sound : let run = map seen calls in RunFrom (started x .after) run → AllFit (operations run)
+        → Sound (shelfOf (lastWords (started x .after) run))
+    started-sound =
+        begun-sound coded refusal (follows linked .reads-start) (started x) (start-goes x) taken fit (map seen calls) (all-go calls)
+
+  -- ---- Demand 3
+
+  -- Two runs, each begun by a start. Both starts are given the same, and the first is not refused (so the second is not either, by
+  -- `start-same`). If what remains of the runs is the same for a source group, judged on the model's own fresh shelf, that group got the
+  -- same in both: every answer, with the whole lent buffer afterwards.
+  pub calls-demand-3 : (x y : Start) → let given = started x .asked in given ≡ started y .asked
+      → StartFits (given .table) (given .identifier) → refusal (started x .told) ≡ 0
+      → (g : ℕ) (calls others : List Call) → let one = map seen calls in let other = map seen others in
+      RunFrom (started x .after) one → RunFrom (started y .after) other → AllFit (operations one) → AllFit (operations other)
+      → remains g (startOf given .shelf) (operations one) ≡ remains g (startOf given .shelf) (operations other)
+      → got g one ≡ got g other
+  calls-demand-3 x y same fit taken g calls others =
+      begun-demand-3 coded refusal (follows linked .reads-start) (started x) (started y) (start-goes x) (start-goes y) same fit taken g
+      (map seen calls) (map seen others) (all-go calls) (all-go others)
+
+  -- ---- Nothing of this is said of nothing: whatever a start is given, and whatever is asked for one after another, there are such calls.
+
+  pub every-start : (ws : List ℕ) (given : Given) → (x : Start) × (started x .before ≡ ws) × (started x .asked ≡ given)
+  every-start = follows linked .begins
+
+  pub every-run : (ws : List ℕ) (os : List Operation)
+      → (calls : List Call) × RunFrom ws (map seen calls) × (operations (map seen calls) ≡ os)
+  unfolding RunFrom
+  every-run ws [] = ([], tt, refl)
+  every-run ws (o ∷ os) =
+      let (call, before, asked) = follows linked .asks ws o in
+      let (calls, from, asks) = every-run (seen call .after) os in
+      (call ∷ calls, (before, from), ap₂ _∷_ asked asks)

@@ -1,3 +1,15 @@
--- What holds of every run of the code: it goes as the model's; and there is one for whatever is asked for.
+-- What holds of every call and every run of what is linked.
+
+-- of one call, of calls one after another and of a start, each of which goes as the model does
+pub mod OneCall
+pub mod ManyCalls
+pub mod Starting
+-- that they do: each promise says so
+pub mod Follows
+pub mod ServerFollows
+pub mod HostFollows
+-- the statements to cite
 pub mod Joined
-pub mod EveryRun
+pub mod ForC
+-- the widths that these ask for are what the types say
+pub mod Widths

@@ -1,5 +1,6 @@
-// Calls of the code, one after another: what the promises of `start`, `serve`, the reports and the reach
-// query say of a whole run.
+// Calls of the code, one after another: what the promises of the functions that are linked say of a whole
+// run on the words of a shelf.
 //
-// There is no function here. What a run of calls is, is in specs/; that it goes as the model's runs go,
-// and that the invariant and demand 3 so hold of what the code returns, is in proofs/.
+// There is no function here. What is seen of a call and of a run, and what the model says of it, is in
+// specs/; that runs go as the model's, and that the demands so hold of the words, the answers and the lent
+// buffers that the code leaves, is in proofs/.

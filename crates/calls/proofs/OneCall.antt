@@ -1,0 +1,154 @@
+-- One call that goes as the model does: nothing but the words and what is asked for matters to it; its house refusal is the lowest that
+-- applies, and leaves words and buffer; a failed result leaves the words; a write has its full effect or none. Assumes nothing.
+use Prim.Native.Nat.{ℕ, _≤_}
+use native.Mathlib.Omega.{arith}
+use mathlib.Core.Path.{_≡_, refl, sym, ap, ap₂, subst, subst⁻¹, _∙_}
+use mathlib.Core.List.{List, []}
+use lib.ListN.{length}
+use Rattle.model.specs.declared.Shelf.{Shelf}
+use Rattle.model.specs.Bytes.{byte}
+use Rattle.model.specs.Fits.{BytesFit, OperationFits, Placed}
+use Rattle.model.specs.Request.{functionOf}
+use Rattle.model.specs.Runs.{Operation, Ask, Event, LinkChange, ReducedFunctionality, Ses, QueryReach, next}
+use Rattle.model.specs.Server.{served, lentAfter}
+use Rattle.model.proofs.Demands.Effects.{Controlled, Configured}
+use Rattle.model.proofs.Demands.Invariant.{fits-placed}
+use Rattle.model.proofs.Demands.Refusals.{request-gives, event-gives, link-change-gives, query-gives}
+use Rattle.model.proofs.Demands.Refusals.{request-refusal, event-refusal, link-change-refusal}
+use Rattle.model.proofs.Demands.Results.{Failed, NotRefused, failed-result}
+use Rattle.model.proofs.Demands.Writes.{ControlPasses, ConfigurePasses, FullOrNone, placed-control-write, placed-configure-write}
+use Rattle.model.proofs.Laws.Lowest.{Gives, row-gives}
+use Rattle.words.specs.Memory.{Memory}
+use Rattle.words.specs.Words.{shelfOf, laidOver}
+use Rattle.words.proofs.Laying.{laid-same}
+use Rattle.words.proofs.Lens.{stands-fit}
+use Rattle.words.proofs.Steps.{next-stands, next-memory}
+use Rattle.calls.specs.Operations.{Said, ToRequest, said, saidNumber, lentBefore, bufferAfter, refusals, firstRefusal}
+use Rattle.calls.specs.Runs.{Asks, Goes}
+use Rattle.calls.specs.Left.{Fails, WordsFullOrNone}
+
+-- ---- The model, of every kind of operation alike
+
+said-gives : (s : Shelf) (o : Operation) → Gives (refusals s o) (firstRefusal o) (saidNumber (said s o))
+unfolding said
+said-gives s (Ask g frame out) = request-gives s g frame out
+said-gives s (Event p source amount) = event-gives s p source amount
+said-gives s (LinkChange p) = link-change-gives s p
+said-gives s ReducedFunctionality = row-gives [] [] 7 (omega arith) tt
+said-gives s Ses = row-gives [] [] 7 (omega arith) tt
+said-gives s (QueryReach g) = query-gives s g
+
+said-stays : (s : Shelf) (o : Operation) → 1 ≤ saidNumber (said s o) → (next s o ≡ s) × (bufferAfter s o ≡ lentBefore o)
+unfolding said next bufferAfter lentBefore served
+said-stays s (Ask g frame out) refused = request-refusal s g frame out refused
+said-stays s (Event p source amount) refused = (event-refusal s p source amount refused, refl)
+said-stays s (LinkChange p) refused = (link-change-refusal s p refused, refl)
+said-stays s ReducedFunctionality refused = absurd (omega arith)
+said-stays s Ses refused = absurd (omega arith)
+said-stays s (QueryReach g) refused = (refl, refl)
+
+-- ---- On the words
+
+module _ {A : Type 0} (coded : Said → A) where
+  -- the whole of what is seen, from the words that are handed in and what is asked for
+  modelled : List ℕ → Operation → Asks A
+  modelled ws o =
+      record {
+        before = ws;
+        asked = o;
+        after = laidOver ws (next (shelfOf ws) o);
+        told = coded (said (shelfOf ws) o);
+        buffer = bufferAfter (shelfOf ws) o;
+      }
+
+  as-modelled : (c : Asks A) → Goes coded (shelfOf (c .before)) c → c ≡ modelled (c .before) (c .asked)
+  unfolding modelled
+  as-modelled c goes = λ i.
+      record { before = c .before; asked = c .asked; after = goes .words i; told = goes .told i; buffer = goes .buffer i }
+
+  -- so nothing else of the arguments matters
+  pub goes-same : (c d : Asks A) → Goes coded (shelfOf (c .before)) c → Goes coded (shelfOf (d .before)) d
+      → c .before ≡ d .before → c .asked ≡ d .asked → c ≡ d
+  goes-same c d goes-c goes-d before asked = as-modelled c goes-c ∙ ap₂ modelled before asked ∙ sym (as-modelled d goes-d)
+
+module _ {A : Type 0} (coded : Said → A) (c : Asks A) (goes : Goes coded (shelfOf (c .before)) c) where
+  -- where the shelf stays, every word does
+  stays : length (c .before) ≡ 548 → next (shelfOf (c .before)) (c .asked) ≡ shelfOf (c .before) → c .after ≡ c .before
+  stays long same = goes .words ∙ ap (laidOver (c .before)) same ∙ laid-same (c .before) long
+
+  -- the words that are left stand for the next shelf, and are such words again
+  pub stand : Memory (c .before) → OperationFits (c .asked) → shelfOf (c .after) ≡ next (shelfOf (c .before)) (c .asked)
+  stand memory fit = ap shelfOf (goes .words) ∙ next-stands (c .before) (c .asked) memory fit
+
+  pub leaves-memory : Memory (c .before) → OperationFits (c .asked) → Memory (c .after)
+  leaves-memory memory fit = subst⁻¹ Memory (goes .words) (next-memory (c .before) (c .asked) memory fit)
+
+  -- where the number of a refusal can be read off what is told
+  module _ (refusal : A → ℕ) (reads : (s : Shelf) (o : Operation) → refusal (coded (said s o)) ≡ saidNumber (said s o)) where
+    number-told : refusal (c .told) ≡ saidNumber (said (shelfOf (c .before)) (c .asked))
+    number-told = ap refusal (goes .told) ∙ reads (shelfOf (c .before)) (c .asked)
+
+    pub lowest-told : Gives (refusals (shelfOf (c .before)) (c .asked)) (firstRefusal (c .asked)) (refusal (c .told))
+    lowest-told =
+        subst⁻¹ (Gives (refusals (shelfOf (c .before)) (c .asked)) (firstRefusal (c .asked))) number-told
+        (said-gives (shelfOf (c .before)) (c .asked))
+
+    pub refusal-stays : length (c .before) ≡ 548 → 1 ≤ refusal (c .told) → (c .after ≡ c .before) × (c .buffer ≡ lentBefore (c .asked))
+    refusal-stays long refused =
+        let same = said-stays (shelfOf (c .before)) (c .asked) (subst (λ n. 1 ≤ n) number-told refused) in
+        (stays long (same .0), goes .buffer ∙ same .1)
+
+    -- a request that is not refused
+    module _ (g : ℕ) (frame out : List ℕ) (asks : c .asked ≡ Ask g frame out) (answered : refusal (c .told) ≡ 0) where
+      abbrev s : Shelf
+      s = shelfOf (c .before)
+
+      asks-goes : (c .after ≡ laidOver (c .before) (served s g frame out .shelf))
+          × (c .told ≡ coded (ToRequest (served s g frame out .answer)))
+          × (c .buffer ≡ lentAfter s g frame out)
+      unfolding next served said bufferAfter
+      asks-goes = (
+        goes .words ∙ ap (λ o. laidOver (c .before) (next s o)) asks,
+        goes .told ∙ ap (λ o. coded (said s o)) asks,
+        goes .buffer ∙ ap (bufferAfter s) asks,
+      )
+
+      not-refused : NotRefused s g frame out
+      unfolding said
+      not-refused = sym (ap (λ o. saidNumber (said s o)) asks) ∙ sym number-told ∙ answered
+
+      pub fails : length (c .before) ≡ 548 → (code : ℕ) → byte (c .buffer) 2 ≡ code → 1 ≤ code → Fails coded frame out code c
+      fails long code drawn some =
+          let (words, told, buffer) = asks-goes in
+          let failed : Failed s g frame out code =
+          failed-result s g frame out code not-refused (ap (λ b. byte b 2) (sym buffer) ∙ drawn) some in
+          record {
+            words = words ∙ ap (laidOver (c .before)) (failed .stays) ∙ laid-same (c .before) long;
+            told = told ∙ ap (λ a. coded (ToRequest a)) (failed .told);
+            buffer = buffer ∙ failed .left;
+          }
+
+      -- a write, from what the model says of it
+      writes : Memory (c .before) → BytesFit frame → {Passing : Type 0} {Full : Shelf → Type 0}
+          → FullOrNone Passing Full s (served s g frame out .shelf)
+          → WordsFullOrNone Passing Full (c .before) (c .after)
+      unfolding next served
+      writes memory fit {Full = Full} write =
+          let words = asks-goes .0 in
+          let next-shelf : shelfOf (c .after) ≡ served s g frame out .shelf =
+          ap shelfOf words ∙ next-stands (c .before) (Ask g frame out) memory fit in
+          record {
+            full = λ passes. subst⁻¹ Full next-shelf (write .full passes);
+            none = λ stopped. words ∙ ap (laidOver (c .before)) (write .none stopped) ∙ laid-same (c .before) (memory .size);
+          }
+
+      placed : Memory (c .before) → Placed s
+      placed memory = fits-placed s (stands-fit (c .before) memory)
+
+      pub control-writes : Memory (c .before) → BytesFit frame → functionOf frame ≡ 0x91
+          → WordsFullOrNone (ControlPasses s g frame) (Controlled s (byte frame 9) (byte frame 10)) (c .before) (c .after)
+      control-writes memory fit e = writes memory fit (placed-control-write s (placed memory) g frame out not-refused e)
+
+      pub configure-writes : Memory (c .before) → BytesFit frame → functionOf frame ≡ 0x93
+          → WordsFullOrNone (ConfigurePasses s g frame) (Configured s (byte frame 9) frame) (c .before) (c .after)
+      configure-writes memory fit e = writes memory fit (placed-configure-write s (placed memory) g frame out not-refused e)
