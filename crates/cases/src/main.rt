@@ -1,4 +1,4 @@
-// Document 01's cases and a day of the contractors, run on shelf W through the very `serve`.
+// Document 01's cases and a day of the contractors, run on shelf W through the very server.
 //
 // The script comes from standard input, and each of its lines is written out with what it came to.
 // The stored output was worked out from document 01 (docs/CASES.md), not taken from a run.
@@ -8,20 +8,22 @@ mod run;
 
 use run::run_line;
 use script::shelf_w::shelf_w;
+use words::WORDS;
 
 // Runs a script line by line. A line ends at a newline or at the end of the script, and the shelf
 // goes on from line to line.
 fn run_script(script: &[u8]) {
-    let mut shelf = shelf_w();
+    let mut words = [0u32; WORDS];
+    shelf_w(&mut words);
     let mut from = 0;
     for i in 0..script.len() {
         if script[i] == b'\n' {
-            shelf = run_line(shelf, &script[from..i]);
+            run_line(&mut words, &script[from..i]);
             from = i + 1;
         }
     }
     if from < script.len() {
-        run_line(shelf, &script[from..]);
+        run_line(&mut words, &script[from..]);
     }
 }
 

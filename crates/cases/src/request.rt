@@ -3,12 +3,12 @@ use crate::print::print_house;
 use crate::print::print_response;
 use crate::print::print_unreadable;
 use model::Answer;
-use model::Shelf;
 use script::line::read_asked;
 use script::line::read_hex;
 use script::text::Reading;
 use server::serve;
 use spelling::part::at_most;
+use words::WORDS;
 ghost use mathlib.Core.Path.{_≡_};
 ghost use lib.ListN.{length};
 
@@ -38,44 +38,41 @@ fn read_frame(line: &[u8], from: Reading, frame: &mut [u8]) -> Frame
 // Serves the first bytes of the frame with the first bytes of the buffer, and writes the response, which
 // stands in the buffer, or the refusal.
 fn ask(
-    shelf: Shelf,
+    words: &mut [u32; WORDS],
     source: u32,
     frame: &[u8],
     length: usize,
     buffer: &mut [u8],
     room: u32,
-) -> Shelf {
+) {
     let n = at_most(length, frame);
     let k = at_most(room as usize, buffer);
-    let served = serve(shelf, source, &frame[..n], &mut buffer[..k]);
-    let answer = served.answer;
-    match answer {
+    match serve(words, source, &frame[..n], &mut buffer[..k]) {
         Answer::Response(size) => {
             let sent = at_most(size, buffer);
             print_response(&buffer[..sent])
         }
         Answer::NoResponse(house) => print_house(house),
     }
-    served.shelf
 }
 
 // `from 8: 40 14 00 ..`, `from 1, buffer of 1027: 40 ..`. The buffer is full of EEh, which is in no stored
 // response, so a byte that the server did not write would show.
-pub(crate) fn run_request(shelf: Shelf, line: &[u8], from: Reading) -> Shelf {
+pub(crate) fn run_request(words: &mut [u32; WORDS], line: &[u8], from: Reading) {
     let asked = read_asked(line, from);
     let mut bytes = [0u8; 1100];
     let frame = read_frame(line, asked, &mut bytes);
     if frame.fits & (asked.third <= 2048) {
         let mut buffer = [0xEEu8; 2048];
-        return ask(
-            shelf,
+        ask(
+            words,
             asked.second,
             &bytes,
             frame.length,
             &mut buffer,
             asked.third,
         );
+        return;
     }
     print_unreadable();
-    shelf
 }

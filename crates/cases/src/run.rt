@@ -4,7 +4,6 @@ use crate::print::print_unreadable;
 use crate::request::run_request;
 use libc::STDOUT_FILENO;
 use model::Reach;
-use model::Shelf;
 use model::Taken;
 use script::line::Line;
 use script::line::line_kind;
@@ -15,38 +14,31 @@ use script::shelf_w::shelf_w;
 use script::text::Reading;
 use script::text::read;
 use script::text::unread;
-use shelf::reach::reach_query;
+use server::reach_query;
 use spelling::set_text;
+use words::WORDS;
 
 // `event on phy 2, source 2Dh, amount 12`, `65534 times: link change on phy 0` and the like
-fn run_report(shelf: Shelf, line: &[u8], from: Reading) -> Shelf {
+fn run_report(words: &mut [u32; WORDS], line: &[u8], from: Reading) {
     match read_report(line, from) {
-        ReportLine::Makes { times, report } => {
-            let last = make_times(shelf, report, times);
-            let taken = last.taken;
-            match taken {
-                Taken::Done => {
-                    io::write_all(STDOUT_FILENO, b" done\n");
-                }
-                Taken::NotDone(house) => print_house(house),
+        ReportLine::Makes { times, report } => match make_times(words, report, times) {
+            Taken::Done => {
+                io::write_all(STDOUT_FILENO, b" done\n");
             }
-            last.shelf
-        }
-        ReportLine::NoReport => {
-            print_unreadable();
-            shelf
-        }
+            Taken::NotDone(house) => print_house(house),
+        },
+        ReportLine::NoReport => print_unreadable(),
     }
 }
 
 // `reach of 8`: the set of phys, and how many they are.
-fn run_reach(shelf: Shelf, line: &[u8], from: Reading) {
+fn run_reach(words: &[u32; WORDS], line: &[u8], from: Reading) {
     let group = read(line, from, b"reach of #");
     if !group.whole {
         print_unreadable();
         return;
     }
-    match reach_query(shelf, group.third) {
+    match reach_query(words, group.third) {
         Reach::Reaches { phys, number } => {
             let text = set_text(phys);
             io::write_all(STDOUT_FILENO, &text);
@@ -64,23 +56,19 @@ fn begin_answer(line: &[u8]) -> Reading {
     read(line, unread(), b"  ")
 }
 
-// Runs one line and writes it with what it came to; the shelf afterwards. A heading starts shelf W afresh.
-pub(crate) fn run_line(shelf: Shelf, line: &[u8]) -> Shelf {
+// Runs one line on the shelf in these words, and writes it with what it came to. A heading starts shelf W afresh.
+pub(crate) fn run_line(words: &mut [u32; WORDS], line: &[u8]) {
     io::write_all(STDOUT_FILENO, line);
     match line_kind(line) {
         Line::Heading => {
             io::write_all(STDOUT_FILENO, b"\n");
-            shelf_w()
+            shelf_w(words);
         }
-        Line::Request => run_request(shelf, line, begin_answer(line)),
-        Line::Reach => {
-            run_reach(shelf, line, begin_answer(line));
-            shelf
-        }
-        Line::Report => run_report(shelf, line, begin_answer(line)),
+        Line::Request => run_request(words, line, begin_answer(line)),
+        Line::Reach => run_reach(words, line, begin_answer(line)),
+        Line::Report => run_report(words, line, begin_answer(line)),
         Line::Idle => {
             io::write_all(STDOUT_FILENO, b"\n");
-            shelf
         }
     }
 }

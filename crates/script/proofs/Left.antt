@@ -9,11 +9,10 @@ use mathlib.Core.List.{List}
 use lib.Dec.{ltb}
 use lib.ListN.{length, drop, getD, drop-of-length-le}
 use lib.Seq.{drop-cons}
-use Rattle.model.specs.declared.Outcome.{Outcome}
 use Rattle.script.specs.declared.report.Report.{Report}
 use Rattle.script.specs.declared.text.Number.{Number}
 use Rattle.script.specs.declared.text.Reading.{Reading}
-use Rattle.script.specs.Report.{makeReport, makeMore}
+use Rattle.script.specs.Report.{Made, makeReport, makeMore}
 use Rattle.script.specs.Text.{digit, longer, digits, readOne, readEach}
 
 module _ (line : List ℕ) (base value end : ℕ) where
@@ -50,8 +49,8 @@ unfolding readEach
 read-end line next form i e = rw (drop-of-length-le form {i = i} (omega arith))
 
 -- a report is made once more
-pub make-turn : (before : Outcome) (report : Report) (times done : ℕ) → done < times
-    → makeMore (makeReport (before .shelf) report) report (times - (done + 1)) ≡ makeMore before report (times - done)
+pub make-turn : (before : Made) (report : Report) (times done : ℕ) → done < times
+    → makeMore (makeReport (before .words) report) report (times - (done + 1)) ≡ makeMore before report (times - done)
 unfolding makeMore
 make-turn before report times done h =
     let e : times - done ≡ suc (times - (done + 1)) = omega arith in

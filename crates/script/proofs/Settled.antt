@@ -1,5 +1,5 @@
 -- The promise of each public function of this crate settles its outcome (`Settled` of the model). Assumes nothing.
-use mathlib.Core.Path.{refl}
+use mathlib.Core.Path.{refl, sym, ap, _∙_}
 use Rattle.model.specs.Settled.{Settled}
 use Rattle.model.proofs.Laws.Settling.{value-settles}
 use Rattle.script.proofs.line.line_kind
@@ -24,10 +24,18 @@ pub read-report-settled : Settled read_report.Kinds.ps read_report.Kinds.r read_
 read-report-settled = value-settles _ _ _ (λ κs a x y. refl)
 
 pub make-times-settled : Settled make_times.Kinds.ps make_times.Kinds.r make_times.Reads.Pre make_times.Reads.Post
-make-times-settled = value-settles _ _ _ (λ κs a x y. refl)
+make-times-settled = record {
+  asks-nothing = λ κs a. tt;
+  same-result = λ κs a x y. x .promised .0 ∙ sym (y .promised .0);
+  same-lent = λ κs a x y. ap (λ words. (words, (tt, (tt, tt)))) (x .promised .1 ∙ sym (y .promised .1));
+}
 
 pub shelf-w-settled : Settled shelf_w.Kinds.ps shelf_w.Kinds.r shelf_w.Reads.Pre shelf_w.Reads.Post
-shelf-w-settled = value-settles _ _ _ (λ κs a x y. refl)
+shelf-w-settled = record {
+  asks-nothing = λ κs a. tt;
+  same-result = λ κs a x y. refl;
+  same-lent = λ κs a x y. ap (λ words. (words, tt)) (x .promised ∙ sym (y .promised));
+}
 
 pub unread-settled : Settled unread.Kinds.ps unread.Kinds.r unread.Reads.Pre unread.Reads.Post
 unread-settled = value-settles _ _ _ (λ κs a x y. refl)

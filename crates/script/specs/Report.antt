@@ -3,11 +3,12 @@ use Prim.Native.Nat.{ℕ, zero, suc}
 use mathlib.Core.Bool.{cond}
 use mathlib.Core.List.{List}
 use Rattle.model.specs.declared.Outcome.{Outcome}
-use Rattle.model.specs.declared.Shelf.{Shelf}
+use Rattle.model.specs.declared.Taken.{Taken}
 use Rattle.model.specs.declared.Taken.the-variants.{Done}
 use Rattle.model.specs.Bytes.{text}
 use Rattle.model.specs.Reports.{event, linkChange, reducedFunctionality, sesNotice}
 use Rattle.model.specs.Tests.{given}
+use Rattle.words.specs.Words.{shelfOf, laidOver}
 use Rattle.script.specs.declared.report.Report.{Report}
 use Rattle.script.specs.declared.report.Report.the-variants.{Event, LinkChange, ReducedFunctionality, SesNotice}
 use Rattle.script.specs.declared.report.ReportLine.{ReportLine}
@@ -48,18 +49,26 @@ reportAfter line start =
 abbrev pub readReport : List ℕ → Reading → ReportLine
 readReport line from = reportAfter line (readTimes line from)
 
--- makes a report; the notices have no refusal
-unfoldable pub makeReport : Shelf → Report → Outcome
-makeReport s (Event phy source amount) = event s phy source amount
-makeReport s (LinkChange phy) = linkChange s phy
-makeReport s ReducedFunctionality = record { taken = Done; shelf = reducedFunctionality s }
-makeReport s SesNotice = record { taken = Done; shelf = sesNotice s }
+-- What a report comes to: what is told, and the words afterwards.
+pub record Made : Type 0 where
+  pub taken : Taken
+  pub words : List ℕ
+
+abbrev pub made : List ℕ → Outcome → Made
+made ws outcome = record { taken = outcome .taken; words = laidOver ws (outcome .shelf) }
+
+-- makes a report on the shelf that these words stand for; the notices have no refusal
+unfoldable pub makeReport : List ℕ → Report → Made
+makeReport ws (Event phy source amount) = made ws (event (shelfOf ws) phy source amount)
+makeReport ws (LinkChange phy) = made ws (linkChange (shelfOf ws) phy)
+makeReport ws ReducedFunctionality = made ws (record { taken = Done; shelf = reducedFunctionality (shelfOf ws) })
+makeReport ws SesNotice = made ws (record { taken = Done; shelf = sesNotice (shelfOf ws) })
 
 -- makes it that many times more
-unfoldable pub makeMore : Outcome → Report → ℕ → Outcome
+unfoldable pub makeMore : Made → Report → ℕ → Made
 makeMore before report zero = before
-makeMore before report (suc times) = makeMore (makeReport (before .shelf) report) report times
+makeMore before report (suc times) = makeMore (makeReport (before .words) report) report times
 
--- .. that many times in all; 0 times come to `Done`, with the shelf as it was
-abbrev pub makeTimes : Shelf → Report → ℕ → Outcome
-makeTimes s report times = makeMore (record { taken = Done; shelf = s }) report times
+-- .. that many times in all; 0 times come to `Done`, with the words as they were
+abbrev pub makeTimes : List ℕ → Report → ℕ → Made
+makeTimes ws report times = makeMore (record { taken = Done; words = ws }) report times

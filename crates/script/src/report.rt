@@ -1,13 +1,11 @@
 // The reports of a script: events, link changes and notices, once or many times.
 use crate::text::Reading;
 use crate::text::read;
-use model::Outcome;
-use model::Shelf;
 use model::Taken;
-use reports::event;
-use reports::link_change;
-use reports::reduced_functionality;
-use reports::ses_notice;
+use server::event;
+use server::link_change;
+use server::notice;
+use words::WORDS;
 ghost use mathlib.Core.Path.{_≡_};
 ghost use Rattle.script.specs.Report.{readTimes, readReport, makeReport, makeTimes};
 
@@ -79,40 +77,38 @@ pub fn read_report(line: &[u8], from: Reading) -> ReportLine
     ReportLine::NoReport
 }
 
-// Makes a report. The notices have no refusal.
-fn make_report(shelf: Shelf, report: Report) -> Outcome
-    ensures { λ r. ⌜ r ≡ makeReport shelf report ⌝ }
+// Makes a report on the shelf in these words. The notices have no refusal.
+fn make_report(words: &mut [u32; WORDS], report: Report) -> Taken
+    ensures told { λ r. ⌜ r ≡ makeReport (now (words .entry)) report .taken ⌝ }
+    ensures kept { λ _. ⌜ now (words .exit) ≡ makeReport (now (words .entry)) report .words ⌝ }
 {
     match report {
         Report::Event {
             phy,
             source,
             amount,
-        } => event(shelf, phy, source, amount),
-        Report::LinkChange { phy } => link_change(shelf, phy),
-        Report::ReducedFunctionality => Outcome {
-            taken: Taken::Done,
-            shelf: reduced_functionality(shelf),
-        },
-        Report::SesNotice => Outcome {
-            taken: Taken::Done,
-            shelf: ses_notice(shelf),
-        },
+        } => event(words, phy, source, amount),
+        Report::LinkChange { phy } => link_change(words, phy),
+        Report::ReducedFunctionality => {
+            notice(words, false);
+            Taken::Done
+        }
+        Report::SesNotice => {
+            notice(words, true);
+            Taken::Done
+        }
     }
 }
 
-// Makes a report that many times, and tells what the last came to. 0 times come to `Done`, with the shelf
-// as it was.
-pub fn make_times(shelf: Shelf, report: Report, times: u32) -> Outcome
-    ensures { λ r. ⌜ r ≡ makeTimes shelf report times ⌝ }
+// Makes a report that many times, and tells what the last came to. 0 times come to `Done`, with the words
+// as they were.
+pub fn make_times(words: &mut [u32; WORDS], report: Report, times: u32) -> Taken
+    ensures told { λ r. ⌜ r ≡ makeTimes (now (words .entry)) report times .taken ⌝ }
+    ensures kept { λ _. ⌜ now (words .exit) ≡ makeTimes (now (words .entry)) report times .words ⌝ }
 {
-    let mut outcome = Outcome {
-        taken: Taken::Done,
-        shelf,
-    };
+    let mut taken = Taken::Done;
     for _ in 0..times {
-        let before = outcome.shelf;
-        outcome = make_report(before, report);
+        taken = make_report(words, report);
     }
-    outcome
+    taken
 }

@@ -9,10 +9,10 @@ use Rattle.cases.proofs.run_script.Statement.{statement}
 use Rattle.cases.proofs.run_script.Tie as tie
 
 abbrev Inv-loop : tie.InvT-loop
-Inv-loop script shelf₀ from₀ i₀ i-end shelf from i = (from ≤ i) × (i ≤ i-end) × (i-end ≡ length script)
+Inv-loop script words₀ from₀ i₀ i-end words from i = (from ≤ i) × (i ≤ i-end) × (i-end ≡ length script)
 
 abbrev μ-loop : tie.MeasureT-loop
-μ-loop script shelf₀ from₀ i₀ i-end shelf from i = i-end - i
+μ-loop script words₀ from₀ i₀ i-end words from i = i-end - i
 
 shelf-w-requires : tie.Need-shelf-w-requires Inv-loop μ-loop
 shelf-w-requires c κs = tt

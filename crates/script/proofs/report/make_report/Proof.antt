@@ -1,6 +1,7 @@
 -- `script::report::make_report` meets its contract: at each report the definition is left with that report's own outcome.
 -- Assumes nothing.
 use borrow.Author.Needs.{needs}
+use mathlib.Core.Path.{refl}
 use Rattle.script.specs.Report.{makeReport}
 use Rattle.script.proofs.report.make_report.Statement.{statement}
 use Rattle.script.proofs.report.make_report.Tie as tie
@@ -20,30 +21,30 @@ link-change-requires c κs = search needs
 enum-told : tie.Need-enum-told
 enum-told c = search needs
 
-reduced-functionality-requires : tie.Need-reduced-functionality-requires
-reduced-functionality-requires c κs = search needs
+notice-requires : tie.Need-notice-requires
+notice-requires c κs = search needs
 
 enum-told-2 : tie.Need-enum-told-2
 enum-told-2 c = search needs
 
-ses-notice-requires : tie.Need-ses-notice-requires
-ses-notice-requires c κs = search needs
+notice-requires-2 : tie.Need-notice-requires-2
+notice-requires-2 c κs = search needs
 
 returns : tie.Need-returns
 unfolding makeReport
-returns c = rw (c .before .before .report .given .1) (c .event .ensures)
+returns c = rw (c .before .before .before .report .given .1) (c .event .ensures)
 
 returns-2 : tie.Need-returns-2
 unfolding makeReport
-returns-2 c = rw (c .before .before .report2 .given .1) (c .link-change .ensures)
+returns-2 c = rw (c .before .before .before .report2 .given .1) (c .link-change .ensures)
 
 returns-3 : tie.Need-returns-3
 unfolding makeReport
-returns-3 c = rw (c .before .enum-told .given .1, c .reduced-functionality .ensures)
+returns-3 c = rw (c .before .before .enum-told .given .1) (refl, c .notice .ensures)
 
 returns-4 : tie.Need-returns-4
 unfolding makeReport
-returns-4 c = rw (c .before .enum-told2 .given .1, c .ses-notice .ensures)
+returns-4 c = rw (c .before .before .enum-told2 .given .1) (refl, c .notice2 .ensures)
 
 pub make-report-spec : {M : Type 1} → statement M
 make-report-spec =
@@ -54,9 +55,9 @@ make-report-spec =
     enum-known-report-2
     link-change-requires
     enum-told
-    reduced-functionality-requires
+    notice-requires
     enum-told-2
-    ses-notice-requires
+    notice-requires-2
     returns
     returns-2
     returns-3
