@@ -4,7 +4,7 @@
  * It is written in Rattle and proved (crates/host): each function returns exactly what its
  * definition says, and leaves the shelf and the lent buffer exactly as defined, for every argument
  * that keeps what is asked of C below, in refusals too. `rt staticlib host` writes
- * target/staticlib/libhost.a, for x86-64, which holds them and refers to memcpy and memset alone.
+ * target/staticlib/libhost.a, for x86-64, which holds them and refers to memset alone.
  * Nothing is kept between two calls but the shelf, and nothing is allocated. The two parts that need
  * no device (smp_gate.h) are in an archive of their own, libgate.a, which is linked beside this one
  * where they are wanted (shelf_day.c does so).
@@ -96,7 +96,7 @@ static inline uint32_t smp_refusal(uint32_t told) { return smp_refused(told) ? t
 
 /* A start: the fresh shelf is laid into C's memory. Tells 0; or H1, H2 or H3, and then there is no
  * shelf: the memory is as it was. The memory has been set before, to anything (calloc does, malloc
- * does not). A start takes about 7.3 KB of stack; every other function takes less than 200 bytes.
+ * does not). A start takes less than 400 bytes of stack; every other function takes less than 200.
  *
  * number      phy number
  * groups      24 groups; those past the phy number are ignored

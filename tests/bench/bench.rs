@@ -34,12 +34,15 @@ type Memory = *mut c_void;
 
 const ROOM: usize = 1028;
 const IDENTIFIER: [u8; 8] = [1, 2, 3, 4, 5, 6, 7, 8];
+static GROUPS: [u32; 24] = streams::groups();
+static TABLE: [u32; 32] = streams::table();
 
 /// One call on a side.
 ///
 /// SAFETY: `shelf` is the side's own memory, from `Side::memory`.
 unsafe fn call(side: &Side, shelf: Memory, call: &Call, out: &mut [u8; ROOM]) -> u32 {
     match *call {
+        Call::Start { phys } => start(side, shelf, phys),
         Call::Serve { source, ref frame, room } => {
             (side.serve)(shelf, source, frame.as_ptr(), frame.len(), out.as_mut_ptr(), room)
         }
@@ -50,13 +53,17 @@ unsafe fn call(side: &Side, shelf: Memory, call: &Call, out: &mut [u8; ROOM]) ->
     }
 }
 
+/// A start on a side, whose memory this is.
+unsafe fn start(side: &Side, shelf: Memory, phys: u32) -> u32 {
+    (side.start)(shelf, phys, GROUPS.as_ptr(), TABLE.as_ptr(), IDENTIFIER.as_ptr())
+}
+
 /// A freshly started and prepared shelf of a side.
 fn prepared(side: &Side, phys: u32, out: &mut [u8; ROOM]) -> Memory {
-    let (groups, table) = (streams::groups(), streams::table());
     let shelf = side.memory();
-    // SAFETY: the side's own memory; the arrays are whole.
+    // SAFETY: the side's own memory.
     unsafe {
-        (side.start)(shelf, phys, groups.as_ptr(), table.as_ptr(), IDENTIFIER.as_ptr());
+        start(side, shelf, phys);
         for preparation in streams::preparation(phys) {
             call(side, shelf, &preparation, out);
         }

@@ -6,6 +6,7 @@
 //! have a Change, an Expander 1h and an Expander 2h count; monitors watch 01h, 2Dh, 20h and 2Eh.
 
 pub enum Call {
+    Start { phys: u32 },
     Serve { source: u32, frame: Vec<u8>, room: usize },
     Event { phy: u32, source: u32, amount: u32 },
     LinkChange { phy: u32 },
@@ -15,17 +16,23 @@ pub enum Call {
 
 /// Every stream.
 #[rustfmt::skip]
-pub const NAMES: [&str; 24] = [
-    "00", "01", "06", "11", "14", "91", "93", "event", "link_change", "notice", "reach", "mixed",
+pub const NAMES: [&str; 25] = [
+    "start", "00", "01", "06", "11", "14", "91", "93", "event", "link_change", "notice", "reach", "mixed",
     "h4", "h5", "h6", "result01", "result03", "result04", "result10", "result16", "result20",
     "result13", "result02", "result17",
 ];
 
-pub fn groups() -> [u32; 24] {
-    std::array::from_fn(|p| 8 + p as u32 % 2)
+pub const fn groups() -> [u32; 24] {
+    let mut groups = [8; 24];
+    let mut p = 1;
+    while p < 24 {
+        groups[p] = 9;
+        p += 2;
+    }
+    groups
 }
 
-pub fn table() -> [u32; 32] {
+pub const fn table() -> [u32; 32] {
     let mut table = [0x2; 32];
     table[1] = u32::MAX;
     table[8] = 0x102;
@@ -97,6 +104,7 @@ fn call(name: &str, i: u32, phys: u32) -> Option<Call> {
         "91" => request(1, control(phy, [5, 1, 3][turn % 3])),
         "93" => request(1, configure(phy, 1, &[(0x01, 5), ([0x2D, 0x2E][turn % 2], 10)])),
         "event" => Call::Event { phy, source: [0x01, 0x2D, 0x20, 0x45][turn % 4], amount: i },
+        "start" => Call::Start { phys },
         "link_change" => Call::LinkChange { phy },
         "notice" => Call::Notice { ses: i % 2 == 1 },
         "reach" => Call::Reach { source: [1, 8, 9, 0][i as usize % 4] },
