@@ -1,7 +1,7 @@
 -- A proof that says `unfolding computes` may run every definition of document 01 on numbers: the names are listed here, once.
 use Prim.Native.Nat.{ℕ}
 use Rattle.model.specs.CrossedOut.{aboutPhy, linkResetOrDisable, crossedOut, remains}
-use Rattle.model.specs.Counting.{originate, counted, crosses, originateCrossings}
+use Rattle.model.specs.Counting.{originate, counted, crosses, crossed}
 use Rattle.model.specs.Counting.{addError, eventOn, changeOn}
 use Rattle.model.specs.Reach.{reachSet, reachNumber, reachQuery}
 use Rattle.model.specs.Reply.{reportGeneral, reportManufacturer, reportPhyErrorLog, reportPhyEvent}
@@ -15,8 +15,8 @@ use Rattle.model.specs.Shelf.{freshShelf, noShelf, startTaken, start}
 use Rattle.model.specs.ShelfW.{shelfW}
 use Rattle.model.specs.Sources.{counting, peak, supported}
 use Rattle.model.specs.Tests.{allBelow, sumBelow, joinBelow}
-use Rattle.model.specs.Writes.{controlled, controlChanges, setMonitor, setMonitors, setOn, clearMonitor, anyPeak}
-use Rattle.model.specs.Writes.{clearOn, configured, effect}
+use Rattle.model.specs.Writes.{controlled, setMonitor, setMonitors, setOn, clearMonitor, anyPeak}
+use Rattle.model.specs.Writes.{clearOn, configured, doing, effect}
 use Rattle.model.specs.Zone.{rowReaches, symmetric, legalTable}
 
 -- `unfolding f` opens whatever f's own `unfolding` line names: each set below is a name for such a line, and its value is of no interest.
@@ -25,7 +25,7 @@ unfolding allBelow sumBelow joinBelow rowReaches symmetric legalTable reachSet r
 zones = 0
 
 unfoldable pub counts : ℕ
-unfolding counting peak supported originate counted crosses originateCrossings addError eventOn changeOn
+unfolding counting peak supported originate counted crosses crossed addError eventOn changeOn
 counts = 0
 
 unfoldable pub shelves : ℕ
@@ -41,7 +41,7 @@ unfolding reportGeneral reportManufacturer reportPhyErrorLog reportPhyEvent devi
 replies = 0
 
 unfoldable pub writes : ℕ
-unfolding controlled controlChanges setMonitor setMonitors setOn clearMonitor anyPeak clearOn configured effect
+unfolding controlled setMonitor setMonitors setOn clearMonitor anyPeak clearOn configured doing effect
 writes = 0
 
 unfoldable pub runs : ℕ

@@ -7,6 +7,7 @@ pub mod Rising
 pub mod Join
 pub mod Picked
 pub mod Places
+pub mod Four
 -- rows of refusals and of results, and what is known of what passed them
 pub mod Lowest
 pub mod Drawn

@@ -1,12 +1,14 @@
 -- "Counting": what a report does to a monitor and to an error count, and what originating does to a broadcast count.
-use Prim.Native.Nat.{ℕ, _+_, _-_, _%_, _^_, min, max}
-use mathlib.Core.Bool.{Bool, cond, _&&_}
+use Prim.Native.Nat.{ℕ, zero, suc, _+_, _-_, _%_, _^_, min, max}
+use mathlib.Core.Bool.{Bool, true, false, cond, _&&_}
 use mathlib.Core.List.{List, [], _∷_, map}
 use lib.Dec.{leb, ltb, eqb}
-use lib.ListN.{getD, set}
+use lib.ListN.{length, getD, set}
+use Rattle.model.specs.declared.Effect.{Effect}
 use Rattle.model.specs.declared.Monitor.{Monitor}
 use Rattle.model.specs.declared.Phy.{Phy}
-use Rattle.model.specs.Shelf.{monitor, phyWith}
+use Rattle.model.specs.declared.Shelf.{Shelf}
+use Rattle.model.specs.Shelf.{monitor, phyWith, put}
 use Rattle.model.specs.Sources.{peak}
 use Rattle.model.specs.Tests.{within}
 
@@ -17,6 +19,32 @@ originate count = cond (eqb count 0xFFFF) 0x0001 (count + 1)
 -- a count that is originated, or not
 abbrev pub originateIf : Bool → ℕ → ℕ
 originateIf b count = cond b (originate count) count
+
+-- a count that is originated n times
+abbrev pub originateTimes : ℕ → ℕ → ℕ
+originateTimes zero count = count
+originateTimes (suc n) count = originateTimes n (originate count)
+
+-- ---- What a write or a report does to the phy that it names
+
+-- the phy afterwards, and whether Change is originated
+abbrev pub effectOf : Phy → Bool → Effect
+effectOf after change = record { phy = after; change = change }
+
+-- Change is not originated
+abbrev pub quiet : Phy → Effect
+quiet after = effectOf after false
+
+-- Carried out on the shelf, of phy p: "Change also moves the change count the same way."
+abbrev pub carriedOut : Shelf → ℕ → Effect → Shelf
+carriedOut s p e = put s p (e .phy) (originateIf (e .change) (s .changes))
+
+-- A phy that originates Change, left enabled or not.
+unfoldable pub changeOn : Bool → Phy → Effect
+changeOn enabled x =
+    effectOf (phyWith x enabled (x .errors) (x .monitors) (originate (x .change0)) (x .expander1) (x .expander2)) true
+
+-- ---- An event report
 
 -- "counting values wrap at 32 bits"
 abbrev pub addWrapping : ℕ → ℕ → ℕ
@@ -41,11 +69,17 @@ counted source amount m =
 unfoldable pub crosses : Monitor → ℕ → Bool
 crosses before after = peak (before .source) && ltb (before .value) (before .threshold) && leb (before .threshold) after
 
--- ".. originates Expander 1h, once per monitor": the count after all of a phy's monitors.
-unfoldable pub originateCrossings : ℕ → ℕ → List Monitor → ℕ → ℕ
-originateCrossings source amount [] count = count
-originateCrossings source amount (m ∷ ms) count =
-    originateCrossings source amount ms (originateIf (crosses m (counted source amount m .value)) count)
+-- those of a phy's monitors that do, in monitor order, each as the report leaves it
+unfoldable pub crossed : ℕ → ℕ → List Monitor → List Monitor
+crossed source amount [] = []
+crossed source amount (m ∷ ms) =
+    let after : Monitor = counted source amount m in
+    let others : List Monitor = crossed source amount ms in
+    cond (crosses m (after .value)) (after ∷ others) others
+
+-- ".. originates Expander 1h, once per monitor"
+abbrev pub originateCrossings : ℕ → ℕ → List Monitor → ℕ → ℕ
+originateCrossings source amount monitors count = originateTimes (length (crossed source amount monitors)) count
 
 -- "Sources 01h to 04h also add to the four error counts in the order above"
 unfoldable pub addError : ℕ → ℕ → List ℕ → List ℕ
@@ -55,16 +89,12 @@ addError source amount errors =
     errors
 
 -- An event report, on the phy that it names.
-unfoldable pub eventOn : ℕ → ℕ → Phy → Phy
+unfoldable pub eventOn : ℕ → ℕ → Phy → Effect
 eventOn source amount x =
-    phyWith x (x .enabled)
+    quiet
+    (phyWith x (x .enabled)
     (addError source amount (x .errors))
     (map (counted source amount) (x .monitors))
     (x .change0)
     (originateCrossings source amount (x .monitors) (x .expander1))
-    (x .expander2)
-
--- A phy that originates Change, left enabled or not.
-unfoldable pub changeOn : Bool → Phy → Phy
-changeOn enabled x =
-    phyWith x enabled (x .errors) (x .monitors) (originate (x .change0)) (x .expander1) (x .expander2)
+    (x .expander2))

@@ -3,13 +3,15 @@
 use Prim.Native.Nat.{ℕ}
 use mathlib.Core.Bool.{Bool, not, _&&_, _||_}
 use lib.Dec.{ltb, eqb}
+use Rattle.model.specs.declared.Effect.{Effect}
 use Rattle.model.specs.declared.House.the-variants.{NoSuchPhy, EventSource, Amount}
 use Rattle.model.specs.declared.Outcome.{Outcome}
+use Rattle.model.specs.declared.Phy.{Phy}
 use Rattle.model.specs.declared.Shelf.{Shelf}
 use Rattle.model.specs.declared.Taken.{Taken}
 use Rattle.model.specs.declared.Taken.the-variants.{Done, NotDone}
-use Rattle.model.specs.Counting.{originate, eventOn, changeOn}
-use Rattle.model.specs.Shelf.{exists, phyAt, put, putDevice, outcome}
+use Rattle.model.specs.Counting.{originate, carriedOut, changeOn, eventOn}
+use Rattle.model.specs.Shelf.{exists, phyAt, putDevice, outcome}
 use Rattle.model.specs.Sources.{supported}
 use Rattle.model.specs.Tests.{given}
 
@@ -27,17 +29,18 @@ eventTaken there source amount =
 
 unfoldable pub event : Shelf → ℕ → ℕ → ℕ → Outcome
 event s p source amount =
-    outcome (eventTaken (exists s p) source amount) s (put s p (eventOn source amount (phyAt s p)) (s .changes))
+    outcome (eventTaken (exists s p) source amount) s (carriedOut s p (eventOn source amount (phyAt s p)))
 
 -- a link change: H7 alone
 abbrev pub linkChangeTaken : Bool → Taken
 linkChangeTaken there = given (not there) (NotDone NoSuchPhy) Done
 
--- A link change originates Change, whether or not the phy is enabled, and moves the change count.
+-- A link change originates Change, and leaves the phy enabled or not as it was.
+abbrev pub linkChangeOn : Phy → Effect
+linkChangeOn x = changeOn (x .enabled) x
+
 unfoldable pub linkChange : Shelf → ℕ → Outcome
-linkChange s p =
-    outcome (linkChangeTaken (exists s p)) s
-    (put s p (changeOn (phyAt s p .enabled) (phyAt s p)) (originate (s .changes)))
+linkChange s p = outcome (linkChangeTaken (exists s p)) s (carriedOut s p (linkChangeOn (phyAt s p)))
 
 -- The two device notices; neither has a refusal.
 unfoldable pub reducedFunctionality : Shelf → Shelf

@@ -9,6 +9,7 @@ use Rattle.model.specs.declared.FunctionResult.the-variants.{InvalidRequ
 use Rattle.model.specs.declared.FunctionResult.the-variants.{InvalidExpanderChangeCount, PhyDoesNotExist}
 use Rattle.model.specs.declared.FunctionResult.the-variants.{UnknownPhyOperation, PhyVacant}
 use Rattle.model.specs.declared.FunctionResult.the-variants.{UnknownPhyEventSource, SmpZoneViolation}
+use Rattle.model.specs.declared.Grounds.{Grounds}
 use Rattle.model.specs.declared.Request.{Request}
 use Rattle.model.specs.declared.Request.the-variants.{ReportGeneral, ReportManufacturer, ReportBroadcast}
 use Rattle.model.specs.declared.Request.the-variants.{ReportPhyErrorLog, ReportPhyEvent, PhyControl}
@@ -34,31 +35,35 @@ resultCode SmpZoneViolation = 0x20
 abbrev pub accepted : FunctionResult → Bool
 accepted result = eqb (resultCode result) 0x00
 
+-- What may decide a request from source group g that names phy p: of the shelf the present change count, whether the phy exists, and
+-- whether the source reaches it.
+abbrev pub grounds : Shelf → ℕ → ℕ → Grounds
+grounds s g p = record { changes = s .changes; there = exists s p; reached = reaches s g p }
+
 -- not 04h: "91h and 93h, when bytes 4 and 5 are neither 0000h nor the present count"
-unfoldable pub countRight : ℕ → ℕ → Bool
-countRight changes expected = oneOf (0x0000 ∷ changes ∷ []) expected
+unfoldable pub countRight : Grounds → ℕ → Bool
+countRight on expected = oneOf (0x0000 ∷ on .changes ∷ []) expected
 
 -- not 13h: "91h, any operation not named below"
 unfoldable pub knownOperation : ℕ → Bool
 knownOperation operation = oneOf (0x00 ∷ 0x01 ∷ 0x03 ∷ 0x05 ∷ []) operation
 
--- From whether the phy exists, and whether the source reaches it: "10h PHY DOES NOT EXIST (functions with a phy, byte 9)", then
--- "Not reached", with its result, then the rest.
-abbrev pub checkPhy : Bool → Bool → FunctionResult → FunctionResult → FunctionResult
-checkPhy there reached unreached rest =
-    check there PhyDoesNotExist
-    (check reached unreached
+-- "10h PHY DOES NOT EXIST (functions with a phy, byte 9)", then "Not reached", with its result, then the rest
+abbrev pub checkPhy : Grounds → FunctionResult → FunctionResult → FunctionResult
+checkPhy on unreached rest =
+    check (on .there) PhyDoesNotExist
+    (check (on .reached) unreached
     rest)
 
 -- "16h PHY VACANT for 11h and 14h"
-abbrev pub checkRead : Bool → Bool → FunctionResult
-checkRead there reached = checkPhy there reached PhyVacant Accepted
+abbrev pub checkRead : Grounds → FunctionResult
+checkRead on = checkPhy on PhyVacant Accepted
 
--- "20h SMP ZONE VIOLATION for 91h and 93h", after 04h and before the contents: whether the count is right comes first
-abbrev pub checkWrite : Bool → Bool → Bool → FunctionResult → FunctionResult
-checkWrite count there reached contents =
-    check count InvalidExpanderChangeCount
-    (checkPhy there reached SmpZoneViolation
+-- "20h SMP ZONE VIOLATION for 91h and 93h", after 04h and before the contents
+abbrev pub checkWrite : Grounds → ℕ → FunctionResult → FunctionResult
+checkWrite on expected contents =
+    check (countRight on expected) InvalidExpanderChangeCount
+    (checkPhy on SmpZoneViolation
     contents)
 
 -- "13h UNKNOWN PHY OPERATION (91h, any operation not named below)"
@@ -76,20 +81,16 @@ checkDescriptors frame d =
     (check (eqb (firstUnsupported frame d 0) d) UnknownPhyEventSource
     Accepted)
 
--- The result of a request that was read from this frame. 01h and 03h are behind it: `judge` gives them. Of the shelf it asks
--- the present change count, whether the request's phy exists, and whether the source reaches it.
-unfoldable pub resultOf : ℕ → Bool → Bool → List ℕ → Request → FunctionResult
-resultOf changes there reached frame ReportGeneral = Accepted
-resultOf changes there reached frame ReportManufacturer = Accepted
-resultOf changes there reached frame (ReportBroadcast kind) = checkKind kind
-resultOf changes there reached frame (ReportPhyErrorLog p) = checkRead there reached
-resultOf changes there reached frame (ReportPhyEvent p) = checkRead there reached
-resultOf changes there reached frame (PhyControl expected p operation) =
-    checkWrite (countRight changes expected) there reached (checkOperation operation)
-resultOf changes there reached frame (ConfigurePhyEvent expected clear p d) =
-    checkWrite (countRight changes expected) there reached (checkDescriptors frame d)
+-- The result of a request that was read from this frame, on these grounds. 01h and 03h are behind it: `judge` gives them.
+unfoldable pub resultOf : Grounds → List ℕ → Request → FunctionResult
+resultOf on frame ReportGeneral = Accepted
+resultOf on frame ReportManufacturer = Accepted
+resultOf on frame (ReportBroadcast kind) = checkKind kind
+resultOf on frame (ReportPhyErrorLog p) = checkRead on
+resultOf on frame (ReportPhyEvent p) = checkRead on
+resultOf on frame (PhyControl expected p operation) = checkWrite on expected (checkOperation operation)
+resultOf on frame (ConfigurePhyEvent expected clear p d) = checkWrite on expected (checkDescriptors frame d)
 
 -- .. and so its result on this shelf, from source group g
 unfoldable pub decide : Shelf → ℕ → List ℕ → Request → FunctionResult
-decide s g frame request =
-    resultOf (s .changes) (exists s (phyOf request)) (reaches s g (phyOf request)) frame request
+decide s g frame request = resultOf (grounds s g (phyOf request)) frame request

@@ -48,11 +48,15 @@ handleJudged s g frame (NoFrame house) = refuse s house
 handleJudged s g frame (Fails result) = fail s frame result
 handleJudged s g frame (Asked request) = conclude s g frame request (decide s g frame request)
 
--- H4 "source group above 31", H5 "response buffer shorter than 1,028 bytes", then H6 and the function results
+-- H5: "response buffer shorter than 1,028 bytes". Nothing else says this number: the code has it as `model::LEAST_BUFFER`.
+abbrev pub leastBuffer : ℕ
+leastBuffer = 1028
+
+-- H4 "source group above 31", H5, then H6 and the function results
 unfoldable pub handle : Shelf → ℕ → List ℕ → ℕ → Handled
 handle s g frame room =
     given (ltb 31 g) (refuse s SourceGroup)
-    (given (ltb room 1028) (refuse s ShortBuffer)
+    (given (ltb room leastBuffer) (refuse s ShortBuffer)
     (handleJudged s g frame (judge frame)))
 
 -- A response at the front of the lent buffer: "The buffer past any response is unchanged."

@@ -1,9 +1,10 @@
 -- "Frames": what an accepted 91h or 93h does to the shelf.
 use Prim.Native.Nat.{ℕ, suc}
-use mathlib.Core.Bool.{Bool, true, false, cond, _&&_, _||_}
+use mathlib.Core.Bool.{Bool, true, false, cond, _||_}
 use mathlib.Core.List.{List, [], _∷_, map}
 use lib.Dec.{ltb, eqb}
 use lib.ListN.{replicate}
+use Rattle.model.specs.declared.Effect.{Effect}
 use Rattle.model.specs.declared.Monitor.{Monitor}
 use Rattle.model.specs.declared.Phy.{Phy}
 use Rattle.model.specs.declared.Request.{Request}
@@ -11,9 +12,9 @@ use Rattle.model.specs.declared.Request.the-variants.{ReportGeneral, Rep
 use Rattle.model.specs.declared.Request.the-variants.{ReportPhyErrorLog, ReportPhyEvent, PhyControl}
 use Rattle.model.specs.declared.Request.the-variants.{ConfigurePhyEvent}
 use Rattle.model.specs.declared.Shelf.{Shelf}
-use Rattle.model.specs.Counting.{originateIf, withValue, changeOn}
+use Rattle.model.specs.Counting.{originateIf, quiet, carriedOut, changeOn, withValue}
 use Rattle.model.specs.Request.{descriptorSource, descriptorThreshold}
-use Rattle.model.specs.Shelf.{monitor, phyWith, phyAt, put}
+use Rattle.model.specs.Shelf.{monitor, phyWith, phyAt}
 use Rattle.model.specs.Sources.{peak}
 
 -- 91h 05h: "sets the four error counts to 0"
@@ -23,16 +24,12 @@ withoutErrors x =
 
 -- 91h: "00h none; 01h link reset enables the phy and originates Change; 03h disable originates Change only if the phy was
 -- enabled; 05h sets the four error counts to 0."
-unfoldable pub controlled : ℕ → Phy → Phy
+unfoldable pub controlled : ℕ → Phy → Effect
 controlled operation x =
     cond (eqb operation 0x01) (changeOn true x)
-    (cond (eqb operation 0x03) (cond (x .enabled) (changeOn false x) x)
-    (cond (eqb operation 0x05) (withoutErrors x)
-    x))
-
--- whether that originates Change, and so moves the change count too
-unfoldable pub controlChanges : ℕ → Phy → Bool
-controlChanges operation x = eqb operation 0x01 || eqb operation 0x03 && x .enabled
+    (cond (eqb operation 0x03) (cond (x .enabled) (changeOn false x) (quiet x))
+    (cond (eqb operation 0x05) (quiet (withoutErrors x))
+    (quiet x)))
 
 -- 93h: "Descriptor i sets monitor i; a changed source sets the value to 0, the same source keeps it."
 unfoldable pub setMonitor : List ℕ → ℕ → Monitor → Monitor
@@ -62,29 +59,31 @@ unfoldable pub anyPeak : List Monitor → Bool
 anyPeak [] = false
 anyPeak (m ∷ ms) = peak (m .source) || anyPeak ms
 
-unfoldable pub clearOn : Phy → Phy
+unfoldable pub clearOn : Phy → Effect
 clearOn x =
-    withMonitors x (map clearMonitor (x .monitors)) (originateIf (anyPeak (x .monitors)) (x .expander2))
+    quiet (withMonitors x (map clearMonitor (x .monitors)) (originateIf (anyPeak (x .monitors)) (x .expander2)))
 
-unfoldable pub configured : List ℕ → ℕ → Bool → Phy → Phy
-configured frame d clear x = cond clear (clearOn (setOn frame d x)) (setOn frame d x)
+unfoldable pub configured : List ℕ → ℕ → Bool → Phy → Effect
+configured frame d clear x = cond clear (clearOn (setOn frame d x)) (quiet (setOn frame d x))
 
--- An accepted 91h and an accepted 93h on the shelf: another record for their phy, and nothing else but, where Change is
--- originated, the change count.
-abbrev pub control : Shelf → ℕ → ℕ → Shelf
-control s p operation =
-    put s p (controlled operation (phyAt s p))
-    (originateIf (controlChanges operation (phyAt s p)) (s .changes))
+-- What an accepted request does: it reads, and nothing changes; or it writes to a phy, which has an effect.
+pub data Doing : Type 0 where
+  Reads : Doing
+  WritesTo : ℕ → (Phy → Effect) → Doing
 
-abbrev pub configure : Shelf → List ℕ → Bool → ℕ → ℕ → Shelf
-configure s frame clear p d = put s p (configured frame d clear (phyAt s p)) (s .changes)
+unfoldable pub doing : List ℕ → Request → Doing
+doing frame ReportGeneral = Reads
+doing frame ReportManufacturer = Reads
+doing frame (ReportBroadcast kind) = Reads
+doing frame (ReportPhyErrorLog p) = Reads
+doing frame (ReportPhyEvent p) = Reads
+doing frame (PhyControl expected p operation) = WritesTo p (controlled operation)
+doing frame (ConfigurePhyEvent expected clear p d) = WritesTo p (configured frame d clear)
 
--- The shelf after an accepted request. Reads change nothing.
+abbrev pub done : Shelf → Doing → Shelf
+done s Reads = s
+done s (WritesTo p f) = carriedOut s p (f (phyAt s p))
+
+-- The shelf after an accepted request.
 unfoldable pub effect : Shelf → List ℕ → Request → Shelf
-effect s frame ReportGeneral = s
-effect s frame ReportManufacturer = s
-effect s frame (ReportBroadcast kind) = s
-effect s frame (ReportPhyErrorLog p) = s
-effect s frame (ReportPhyEvent p) = s
-effect s frame (PhyControl expected p operation) = control s p operation
-effect s frame (ConfigurePhyEvent expected clear p d) = configure s frame clear p d
+effect s frame request = done s (doing frame request)

@@ -3,6 +3,9 @@
 // There is no function here. What the records and enums mean is in specs/, in the order of document 01
 // (specs/Lib.antt names the files); what follows from that is in proofs/.
 
+// H5: "response buffer shorter than 1,028 bytes" (`leastBuffer` of specs/Server).
+pub const LEAST_BUFFER: usize = 1028;
+
 // A monitor has an event source, a 32-bit value and a 32-bit threshold.
 pub struct Monitor {
     pub source: u8,
@@ -23,6 +26,13 @@ pub struct Phy {
     pub expander1: u16,
     // Expander 2h: peaks have been cleared
     pub expander2: u16,
+}
+
+// What a write or a report does to the phy that it names: the phy afterwards, and whether it originated Change, which moves
+// the change count too (`carriedOut` of specs/Counting).
+pub struct Effect {
+    pub phy: Phy,
+    pub change: bool,
 }
 
 // The shelf: its phys, the permission table, and what is device wide.
@@ -96,6 +106,14 @@ pub enum Request {
         phy: u8,
         number: u8,
     },
+}
+
+// What may decide a request that was read: the present change count, whether the phy that it names exists, and whether its
+// source reaches it (`grounds` of specs/Results).
+pub struct Grounds {
+    pub changes: u16,
+    pub there: bool,
+    pub reached: bool,
 }
 
 // What judging one request frame alone yields: the read request, a house refusal or a failed result.

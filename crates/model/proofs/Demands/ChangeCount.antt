@@ -4,18 +4,18 @@ use mathlib.Core.Path.{_≡_, refl, ap, _∙_}
 use mathlib.Core.Bool.{Bool, true, false, false≢true}
 use lib.Dec.{T}
 use lib.ListN.{getD}
+use Rattle.model.specs.declared.Effect.{Effect}
 use Rattle.model.specs.declared.Phy.{Phy}
 use Rattle.model.specs.declared.Shelf.{Shelf}
-use Rattle.model.specs.Counting.{originate, originateIf, changeOn}
+use Rattle.model.specs.Counting.{originateIf, carriedOut, changeOn, eventOn}
 use Rattle.model.specs.Fits.{Placed}
-use Rattle.model.specs.Reports.{eventTaken, event, linkChangeTaken, linkChange, reducedFunctionality, sesNotice}
-use Rattle.model.specs.Runs.{Operation, Ask, Event, LinkChange, ReducedFunctionality, Ses, QueryReach, next, Started}
-use Rattle.model.specs.Shelf.{noPhy, exists, phyAt, put, outcome}
+use Rattle.model.specs.Reports.{eventTaken, event, linkChangeTaken, linkChangeOn, linkChange, reducedFunctionality, sesNotice}
+use Rattle.model.specs.Runs.{Operation, next, Started}
+use Rattle.model.specs.Shelf.{noPhy, exists, phyAt, outcome}
 use Rattle.model.proofs.Demands.Invariant.{started-placed, phy-placed}
 use Rattle.model.proofs.Laws.Checks.{every-outcome}
-use Rattle.model.proofs.Laws.PhyChanges.{Changes, event-changes, change-changes, configured-changes}
-use Rattle.model.proofs.Laws.PhyChanges.{controlled-changes}
-use Rattle.model.proofs.Laws.Steps.{Step, Stays, ChangesPhy, CountsNotice, KeptBy, next-step}
+use Rattle.model.proofs.Laws.PhyChanges.{event-inner, link-change-inner, configured-inner, controlled-inner}
+use Rattle.model.proofs.Laws.Steps.{Step, Stays, ChangesPhy, CountsNotice, KeptBy, every-change, next-step}
 use Rattle.model.proofs.Plain.Shelf.{put-same, put-other}
 
 -- ---- Every operation: the change count and the Change count of one phy that exists are originated together, or neither is; and no
@@ -29,13 +29,15 @@ pub record Together (s t : Shelf) : Type 0 where
   pub here : phyAt t phy .change0 ≡ originateIf originates (phyAt s phy .change0)
   pub others : (q : ℕ) → (q ≡ phy → ⊥) → phyAt t q .change0 ≡ phyAt s q .change0
 
+-- the Change count of a phy moves exactly where Change is originated
+abbrev Changes : (Phy → Effect) → Type 0
+Changes f = (x : Phy) → f x .phy .change0 ≡ originateIf (f x .change) (x .change0)
+
 all-change : (operation : Operation) → KeptBy Changes operation
-all-change (Ask g frame out) = (controlled-changes, configured-changes frame)
-all-change (Event p source amount) = event-changes source amount
-all-change (LinkChange p) = change-changes
-all-change ReducedFunctionality = tt
-all-change Ses = tt
-all-change (QueryReach g) = tt
+all-change =
+    every-change Changes (λ operation. controlled-inner operation .change0) (λ frame d clear. configured-inner frame d clear .change0)
+    (λ source amount. event-inner source amount .change0)
+    (link-change-inner .change0)
 
 -- neither is originated
 still : (s t : Shelf) → t .phys ≡ s .phys → t .changes ≡ s .changes → Together s t
@@ -52,17 +54,17 @@ still s t phys count =
 
 step-together : (s t : Shelf) → Placed s → Step Changes s t → Together s t
 step-together s t placed (Stays e) = still s t (ap (λ u. u .phys) e) (ap (λ u. u .changes) e)
-step-together s t placed (ChangesPhy p f moves there changes e) =
+step-together s t placed (ChangesPhy p f there changes e) =
     let x : Phy = phyAt s p in
-    let n : ℕ = originateIf (moves x) (s .changes) in
+    let n : ℕ = originateIf (f x .change) (s .changes) in
     rw e
     (record {
-      originates = moves x;
+      originates = f x .change;
       phy = p;
       there = λ moving. there;
       count = refl;
-      here = ap (λ y. y .change0) (put-same s p (f x) n (phy-placed s p placed there .0)) ∙ changes x;
-      others = λ q apart. ap (λ y. y .change0) (put-other s p (f x) n q apart);
+      here = ap (λ y. y .change0) (put-same s p (f x .phy) n (phy-placed s p placed there .0)) ∙ changes x;
+      others = λ q apart. ap (λ y. y .change0) (put-other s p (f x .phy) n q apart);
     })
 step-together s t placed (CountsNotice a b e) = still s t (ap (λ u. u .phys) e) (ap (λ u. u .changes) e)
 
@@ -74,7 +76,7 @@ next-together s started operation =
 -- ---- The reports: an event, and a device notice, leaves the change count; a link change on a phy that exists originates it.
 
 pub event-count : (s : Shelf) (p source amount : ℕ) → event s p source amount .shelf .changes ≡ s .changes
-unfolding event
+unfolding event eventOn
 event-count s p source amount =
     every-outcome (λ t. t .changes ≡ s .changes) (eventTaken (exists s p) source amount) s _ refl (λ done. refl)
 
@@ -83,11 +85,11 @@ unfolding reducedFunctionality sesNotice
 notices-count s = (refl, refl)
 
 pub link-change-count : (s : Shelf) (p : ℕ) → linkChange s p .shelf .changes ≡ originateIf (exists s p) (s .changes)
-unfolding linkChange
+unfolding linkChange changeOn
 link-change-count s p = go (exists s p)
   where
     new : Shelf
-    new = put s p (changeOn (phyAt s p .enabled) (phyAt s p)) (originate (s .changes))
+    new = carriedOut s p (linkChangeOn (phyAt s p))
 
     go : (there : Bool)
         → outcome (linkChangeTaken there) s new .shelf .changes ≡ originateIf there (s .changes)

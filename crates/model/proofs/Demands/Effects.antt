@@ -3,7 +3,7 @@
 -- are left by one write. Assumes nothing.
 use Prim.Native.Nat.{ℕ, _≤_, _<_}
 use native.Mathlib.Nat.{zero-add}
-use mathlib.Core.Path.{_≡_, refl, sym, _∙_}
+use mathlib.Core.Path.{_≡_, refl, sym, ap, _∙_}
 use mathlib.Core.Logic.{_↔_, Iff·rfl}
 use mathlib.Core.Bool.{Bool, true, false, not, cond, _&&_}
 use mathlib.Core.List.{List, [], _∷_, map, List·Memᴰ}
@@ -16,14 +16,14 @@ use Rattle.model.specs.declared.Phy.{Phy}
 use Rattle.model.specs.declared.Request.the-variants.{PhyControl, ConfigurePhyEvent}
 use Rattle.model.specs.declared.Shelf.{Shelf}
 use Rattle.model.specs.Bytes.{byte}
-use Rattle.model.specs.Counting.{originate, originateIf, withValue, changeOn}
+use Rattle.model.specs.Counting.{originate, originateIf, quiet, changeOn, withValue}
 use Rattle.model.specs.Fits.{Placed}
 use Rattle.model.specs.Reply.{monitorAt}
 use Rattle.model.specs.Request.{clears, descriptorSource, descriptorThreshold}
 use Rattle.model.specs.Shelf.{exists, noPhy, phyAt, monitor, phyWith, shelfWith, freshMonitor}
 use Rattle.model.specs.Sources.{peak}
-use Rattle.model.specs.Writes.{controlled, controlChanges, setMonitor, setMonitors, withMonitors, setOn, clearMonitor}
-use Rattle.model.specs.Writes.{anyPeak, clearOn, configured, effect}
+use Rattle.model.specs.Writes.{controlled, setMonitor, setMonitors, withMonitors, setOn, clearMonitor}
+use Rattle.model.specs.Writes.{anyPeak, clearOn, configured, doing, effect}
 use Rattle.model.proofs.Demands.Invariant.{phy-placed}
 use Rattle.model.proofs.Laws.Tests.{and-iff, not-both-iff, both-iff, cond-iff, cond-both, eqb-iff, by-each}
 use Rattle.model.proofs.Plain.Results.{knownOperations}
@@ -75,7 +75,7 @@ pub record Controlled (s : Shelf) (p operation : ℕ) (t : Shelf) : Type 0 where
 -- an accepted 91h, of a phy that exists, does exactly this
 pub controlled-effect : (s : Shelf) (frame : List ℕ) (expected p operation : ℕ) → Placed s → T (exists s p)
     → Controlled s p operation (effect s frame (PhyControl expected p operation))
-unfolding effect controlled controlChanges changeOn
+unfolding effect doing controlled changeOn
 controlled-effect s frame expected p operation placed there =
     let (h, _) = phy-placed s p placed there in
     record {
@@ -257,15 +257,14 @@ module _ (frame : List ℕ) (x : Phy) where
   monitorsAfter = clearedIf (clears frame) monitorsSet
 
   configured-is : configured frame (byte frame 11) (clears frame) x
-      ≡ withMonitors x monitorsAfter
-      (originateIf (clears frame && anyPeak monitorsAfter) (x .expander2))
+      ≡ quiet (withMonitors x monitorsAfter (originateIf (clears frame && anyPeak monitorsAfter) (x .expander2)))
   unfolding configured setOn clearOn
   configured-is = go (clears frame)
     where
       go : (clear : Bool)
-          → cond clear (clearOn (setOn frame (byte frame 11) x)) (setOn frame (byte frame 11) x)
-          ≡ withMonitors x (clearedIf clear monitorsSet)
-          (originateIf (clear && anyPeak (clearedIf clear monitorsSet)) (x .expander2))
+          → cond clear (clearOn (setOn frame (byte frame 11) x)) (quiet (setOn frame (byte frame 11) x))
+          ≡ quiet
+          (withMonitors x (clearedIf clear monitorsSet) (originateIf (clear && anyPeak (clearedIf clear monitorsSet)) (x .expander2)))
       go true = rw cleared-peaks
       go false = refl
 
@@ -280,16 +279,16 @@ module _ (frame : List ℕ) (x : Phy) where
 -- an accepted 93h, of a phy that exists, does exactly this
 pub configured-effect : (s : Shelf) (frame : List ℕ) (expected p : ℕ) → Placed s → T (exists s p)
     → Configured s p frame (effect s frame (ConfigurePhyEvent expected (clears frame) p (byte frame 11)))
-unfolding effect
+unfolding effect doing
 configured-effect s frame expected p placed there =
     let x : Phy = phyAt s p in
     let (h, (_, four)) = phy-placed s p placed there in
     let ms : List Monitor = monitorsAfter frame x in
-    let new = put-same s p (configured frame (byte frame 11) (clears frame) x) (s .changes) h ∙ configured-is frame x in
+    let new = put-same s p (configured frame (byte frame 11) (clears frame) x .phy) (s .changes) h ∙ ap (λ e. e .phy) (configured-is frame x) in
     let (finding, missing) = cond-iff (clears frame && anyPeak ms) _ (originate (x .expander2)) (x .expander2) .0 refl in
     record {
       only = put-only s p _ _;
-      changes = refl;
+      changes = rw (configured-is frame x);
       rest = rw new;
       number = rw new (number-after frame x four);
       each = rw new (λ i l. rw (each-after frame x four i l) (after-configured frame i (monitorAt x i)));

@@ -15,7 +15,7 @@ use Rattle.model.specs.declared.Monitor.{Monitor}
 use Rattle.model.specs.declared.Phy.{Phy}
 use Rattle.model.specs.declared.Shelf.{Shelf}
 use Rattle.model.specs.declared.Taken.the-variants.{Done}
-use Rattle.model.specs.Counting.{counted, addError, eventOn}
+use Rattle.model.specs.Counting.{originateTimes, counted, crossed, addError, eventOn}
 use Rattle.model.specs.Fits.{Placed}
 use Rattle.model.specs.Reply.{errorAt, monitorAt}
 use Rattle.model.specs.Reports.{eventTaken, event}
@@ -29,7 +29,7 @@ use Rattle.model.proofs.Demands.Invariant.{started-placed, phy-placed}
 use Rattle.model.proofs.Laws.Checks.{outcome-taken}
 use Rattle.model.proofs.Laws.Places.{any-default}
 use Rattle.model.proofs.Laws.Tests.{is-true, is-false, within-iff, within-true, cond-by, cond-both}
-use Rattle.model.proofs.Plain.Counting.{add-error-length, Crossings, crossings-one, originated, crossings-originate}
+use Rattle.model.proofs.Plain.Counting.{add-error-length, Crossings, crossings-one, crossed-are}
 use Rattle.model.proofs.Plain.Reports.{event-done}
 use Rattle.model.proofs.Plain.Shelf.{OnlyPhy, put-same, put-only}
 use Rattle.model.proofs.Plain.Sources.{supported-iff, counting-not-peak}
@@ -56,9 +56,9 @@ pub record PhyCounted (source amount : ℕ) (x y : Phy) : Type 0 where
   pub error-added : (k : ℕ) → k < 4 → source ≡ k + 1 → errorAt y k ≡ min (errorAt x k + amount) 0xFFFFFFFF
   pub error-kept : (k : ℕ) → k < 4 → (source ≡ k + 1 → ⊥) → errorAt y k ≡ errorAt x k
   -- ".. originates Expander 1h, once per monitor"
-  pub crossed : ℕ
+  pub crossed : List Monitor
   pub crossings : Crossings (x .monitors) (y .monitors) crossed
-  pub expander1 : y .expander1 ≡ originated crossed (x .expander1)
+  pub expander1 : y .expander1 ≡ originateTimes (length crossed) (x .expander1)
   -- and nothing else of it is another
   pub group : y .group ≡ x .group
   pub enabled : y .enabled ≡ x .enabled
@@ -126,10 +126,9 @@ module _ (source amount : ℕ) (errors : List ℕ) where
 
 -- ---- the phy
 
-event-counted : (source amount : ℕ) (x : Phy) → Four x → PhyCounted source amount x (eventOn source amount x)
+event-counted : (source amount : ℕ) (x : Phy) → Four x → PhyCounted source amount x (eventOn source amount x .phy)
 unfolding eventOn
 event-counted source amount x (four-errors, four-monitors) =
-    let (k, some, is) = crossings-originate source amount (x .monitors) (x .expander1) in
     let new : List Monitor = map (counted source amount) (x .monitors) in
     let size : length new ≡ 4 = length-map (x .monitors) (counted source amount) ∙ four-monitors in
     record {
@@ -138,9 +137,9 @@ event-counted source amount x (four-errors, four-monitors) =
       errors-number = add-error-length source amount (x .errors) ∙ four-errors;
       error-added = added-there source amount (x .errors) four-errors;
       error-kept = λ k below. kept-there source amount (x .errors) k;
-      crossed = k;
-      crossings = some;
-      expander1 = is;
+      crossed = crossed source amount (x .monitors);
+      crossings = crossed-are source amount (x .monitors);
+      expander1 = refl;
       group = refl;
       enabled = refl;
       change0 = refl;
@@ -181,13 +180,13 @@ phy-one {source} {amount} {x} {y} {z} known a b =
 -- an event report that is taken, of every shelf whose arrays have their places
 pub placed-event-effect : (s : Shelf) → Placed s → (p source amount : ℕ) → event s p source amount .taken ≡ Done
     → Counted s p source amount (event s p source amount .shelf)
-unfolding event
+unfolding event eventOn
 placed-event-effect s placed p source amount done =
     let taken : eventTaken (exists s p) source amount ≡ Done = rw outcome-taken at done in
     let (h, four) = phy-placed s p placed (event-done s p source amount .0 taken .phy-exists) in
     rw taken
     (record {
-      phy = rw (put-same s p (eventOn source amount (phyAt s p)) (s .changes) h) (event-counted source amount (phyAt s p) four);
+      phy = rw (put-same s p (eventOn source amount (phyAt s p) .phy) (s .changes) h) (event-counted source amount (phyAt s p) four);
       only = put-only s p _ _;
       changes = refl;
     })

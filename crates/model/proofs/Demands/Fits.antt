@@ -8,10 +8,11 @@ use mathlib.Core.List.{List, map}
 use borrow.Author.Tests.{ltb-true, ltb-false}
 use lib.Dec.{ltb, eqb}
 use lib.ListN.{length, getD, replicate, length-map, List·getD-eq-default}
+use Rattle.model.specs.declared.Effect.{Effect}
 use Rattle.model.specs.declared.Monitor.{Monitor}
 use Rattle.model.specs.declared.Phy.{Phy}
 use Rattle.model.specs.Bytes.{dword}
-use Rattle.model.specs.Counting.{originate, originateIf, addSaturating, counted, originateCrossings, addError, eventOn}
+use Rattle.model.specs.Counting.{originate, originateIf, originateTimes, addSaturating, counted, crossed, addError, eventOn}
 use Rattle.model.specs.Counting.{changeOn}
 use Rattle.model.specs.Fits.{BytesFit, MonitorFits, PhyFits}
 use Rattle.model.specs.Shelf.{phyWith, freshMonitor, freshPhy}
@@ -21,7 +22,7 @@ use Rattle.model.specs.Writes.{withoutErrors, controlled, setMonitor, se
 use Rattle.model.specs.Writes.{clearOn, configured}
 use Rattle.model.proofs.Laws.Places.{Each, change-at, map-at, replicate-each}
 use Rattle.model.proofs.Laws.Tests.{cond-both}
-use Rattle.model.proofs.Plain.Counting.{originate-range, add-error-length, originated, crossings-originate}
+use Rattle.model.proofs.Plain.Counting.{originate-range, add-error-length}
 use Rattle.model.proofs.Plain.Writes.{set-length, set-at}
 
 -- ---- counts
@@ -32,15 +33,9 @@ originated-fits b count h = cond-both (λ n. n ≤ 0xFFFF) b _ _ (originate-rang
 pub originated-present : (b : Bool) (count : ℕ) → count ≤ 0xFFFF → 1 ≤ count → 1 ≤ originateIf b count
 originated-present b count h some = cond-both (λ n. 1 ≤ n) b _ _ (originate-range count h .0) some
 
-times-fit : (n count : ℕ) → count ≤ 0xFFFF → originated n count ≤ 0xFFFF
+times-fit : (n count : ℕ) → count ≤ 0xFFFF → originateTimes n count ≤ 0xFFFF
 times-fit zero count h = h
 times-fit (suc n) count h = times-fit n (originate count) (originate-range count h .1)
-
-crossings-fit : (source amount : ℕ) (ms : List Monitor) (count : ℕ) → count ≤ 0xFFFF
-    → originateCrossings source amount ms count ≤ 0xFFFF
-crossings-fit source amount ms count h =
-    let (k, _, is) = crossings-originate source amount ms count in
-    rw is (times-fit k count h)
 
 -- ---- the four error counts
 
@@ -119,6 +114,10 @@ module _ (frame : List ℕ) (fit : BytesFit frame) where
 abbrev pub FitsOn : Phy → Phy → Type 0
 FitsOn x y = PhyFits x → PhyFits y
 
+-- what is done to a phy keeps that
+abbrev pub KeepsFit : (Phy → Effect) → Type 0
+KeepsFit f = (x : Phy) → FitsOn x (f x .phy)
+
 -- other numbers in it, from what each keeps
 fits-with : (x : Phy) {enabled : Bool} {errors : List ℕ} {ms : List Monitor} {change0 expander1 expander2 : ℕ}
     → (ErrorsFit (x .errors) → ErrorsFit errors)
@@ -139,16 +138,16 @@ fits-with x es fs c0 e1 e2 f =
       expander2 = e2 (f .expander2);
     }
 
-pub event-keeps : (source amount : ℕ) → amount ≤ 0xFFFFFFFF → (x : Phy) → FitsOn x (eventOn source amount x)
+pub event-keeps : (source amount : ℕ) → amount ≤ 0xFFFFFFFF → KeepsFit (eventOn source amount)
 unfolding eventOn
 event-keeps source amount h x =
     fits-with x (add-error-fits source amount (x .errors))
     (map-fits (counted source amount) (counted-fits source amount h) (x .monitors))
     (λ f. f)
-    (crossings-fit source amount (x .monitors) (x .expander1))
+    (times-fit (length (crossed source amount (x .monitors))) (x .expander1))
     (λ f. f)
 
-pub change-keeps : (enabled : Bool) (x : Phy) → FitsOn x (changeOn enabled x)
+pub change-keeps : (enabled : Bool) → KeepsFit (changeOn enabled)
 unfolding changeOn
 change-keeps enabled x =
     fits-with x (λ f. f) (λ f. f) (originated-fits true (x .change0)) (λ f. f) (λ f. f)
@@ -157,16 +156,17 @@ without-errors-keeps : (x : Phy) → FitsOn x (withoutErrors x)
 without-errors-keeps x = fits-with x (λ f. no-errors-fit) (λ f. f) (λ f. f) (λ f. f) (λ f. f)
 
 -- what holds of each thing that a 91h may make of the phy
-controlled-all : (P : Phy → Type 0) (operation : ℕ) (x : Phy) → P x → ((enabled : Bool) → P (changeOn enabled x))
-    → P (withoutErrors x) → P (controlled operation x)
+controlled-all : (P : Phy → Type 0) (operation : ℕ) (x : Phy) → P x → ((enabled : Bool) → P (changeOn enabled x .phy))
+    → P (withoutErrors x) → P (controlled operation x .phy)
 unfolding controlled
 controlled-all P operation x none change clear =
-    cond-both P (eqb operation 0x01) _ _ (change true)
-    (cond-both P (eqb operation 0x03) _ _ (cond-both P (x .enabled) _ _ (change false) none)
-    (cond-both P (eqb operation 0x05) _ _ clear
+    cond-both (λ (e : Effect). P (e .phy)) (eqb operation 0x01) _ _ (change true)
+    (cond-both (λ (e : Effect). P (e .phy)) (eqb operation 0x03) _ _
+    (cond-both (λ (e : Effect). P (e .phy)) (x .enabled) _ _ (change false) none)
+    (cond-both (λ (e : Effect). P (e .phy)) (eqb operation 0x05) _ _ clear
     none))
 
-pub control-keeps : (operation : ℕ) (x : Phy) → FitsOn x (controlled operation x)
+pub control-keeps : (operation : ℕ) → KeepsFit (controlled operation)
 control-keeps operation x =
     controlled-all (FitsOn x) operation x (λ f. f) (λ enabled. change-keeps enabled x) (without-errors-keeps x)
 
@@ -175,18 +175,17 @@ unfolding setOn
 set-keeps frame fit d x =
     fits-with x (λ f. f) (set-fits frame fit d (x .monitors)) (λ f. f) (λ f. f) (λ f. f)
 
-clear-keeps : (x : Phy) → FitsOn x (clearOn x)
+clear-keeps : KeepsFit clearOn
 unfolding clearOn
 clear-keeps x =
     fits-with x (λ f. f) (map-fits clearMonitor clear-fits (x .monitors)) (λ f. f) (λ f. f)
     (originated-fits (anyPeak (x .monitors)) (x .expander2))
 
-pub configure-keeps : (frame : List ℕ) → BytesFit frame → (d : ℕ) (clear : Bool) (x : Phy)
-    → FitsOn x (configured frame d clear x)
+pub configure-keeps : (frame : List ℕ) → BytesFit frame → (d : ℕ) (clear : Bool) → KeepsFit (configured frame d clear)
 unfolding configured
 configure-keeps frame fit d clear x =
     let set : FitsOn x (setOn frame d x) = set-keeps frame fit d x in
-    cond-both (FitsOn x) clear _ _ (λ f. clear-keeps (setOn frame d x) (set f)) set
+    cond-both (λ (e : Effect). FitsOn x (e .phy)) clear _ _ (λ f. clear-keeps (setOn frame d x) (set f)) set
 
 -- ---- a fresh phy
 
@@ -209,20 +208,24 @@ fresh-fits g h =
 abbrev pub Four : Phy → Type 0
 Four x = (length (x .errors) ≡ 4) × (length (x .monitors) ≡ 4)
 
-pub event-four : (source amount : ℕ) (x : Phy) → Four x → Four (eventOn source amount x)
+-- what is done to a phy keeps them
+abbrev pub KeepsFour : (Phy → Effect) → Type 0
+KeepsFour f = (x : Phy) → Four x → Four (f x .phy)
+
+pub event-four : (source amount : ℕ) → KeepsFour (eventOn source amount)
 unfolding eventOn
 event-four source amount x f =
     (add-error-length source amount (x .errors) ∙ f .0, length-map (x .monitors) (counted source amount) ∙ f .1)
 
-pub change-four : (enabled : Bool) (x : Phy) → Four x → Four (changeOn enabled x)
+pub change-four : (enabled : Bool) → KeepsFour (changeOn enabled)
 unfolding changeOn
 change-four enabled x f = f
 
-pub control-four : (operation : ℕ) (x : Phy) → Four x → Four (controlled operation x)
+pub control-four : (operation : ℕ) → KeepsFour (controlled operation)
 control-four operation x f = controlled-all Four operation x f (λ enabled. change-four enabled x f) (refl, f .1)
 
-pub configure-four : (frame : List ℕ) (d : ℕ) (clear : Bool) (x : Phy) → Four x → Four (configured frame d clear x)
+pub configure-four : (frame : List ℕ) (d : ℕ) (clear : Bool) → KeepsFour (configured frame d clear)
 unfolding configured setOn clearOn
 configure-four frame d clear x f =
     let set : length (setMonitors frame d 0 (x .monitors)) ≡ 4 = set-length frame d 0 (x .monitors) ∙ f .1 in
-    cond-both Four clear _ _ (f .0, length-map (setMonitors frame d 0 (x .monitors)) clearMonitor ∙ set) (f .0, set)
+    cond-both (λ (e : Effect). Four (e .phy)) clear _ _ (f .0, length-map (setMonitors frame d 0 (x .monitors)) clearMonitor ∙ set) (f .0, set)

@@ -9,19 +9,22 @@ use mathlib.Core.List.{List, [], _∷_}
 use borrow.Author.Tests.{ltb-true}
 use lib.Dec.{T, ltb}
 use lib.ListN.{length, getD}
-use Rattle.model.specs.declared.Phy.{Phy}
 use Rattle.model.specs.declared.Shelf.{Shelf}
 use Rattle.model.specs.declared.Taken.the-variants.{Done}
 use Rattle.model.specs.Counting.{originateIf}
 use Rattle.model.specs.Fits.{Fits, Placed, StartFits, OperationFits, AllFit, Sound}
 use Rattle.model.specs.Reach.{reaches}
 use Rattle.model.specs.Runs.{Operation, Ask, Event, LinkChange, ReducedFunctionality, Ses, QueryReach, next, after}
+use Rattle.model.specs.Request.{asked}
 use Rattle.model.specs.Runs.{Started}
 use Rattle.model.specs.Shelf.{exists, phyAt, startGroup, freshShelf, noShelf, startTaken, start}
-use Rattle.model.proofs.Demands.Fits.{FitsOn, fresh-fits, Four, event-four, change-four, control-four, configure-four}
-use Rattle.model.proofs.Demands.Fits.{originated-fits, originated-present, event-keeps, change-keeps, control-keeps, configure-keeps}
+use Rattle.model.proofs.Demands.Fits.{FitsOn, KeepsFit, fresh-fits, Four, KeepsFour, event-four, change-four, control-four}
+use Rattle.model.proofs.Demands.Fits.{configure-four, originated-fits, originated-present, event-keeps, change-keeps, control-keeps}
+use Rattle.model.proofs.Demands.Fits.{configure-keeps}
 use Rattle.model.proofs.Laws.Checks.{every-outcome}
-use Rattle.model.proofs.Laws.Steps.{Step, KeptBy, next-step, step-fixed, step-phys, DeviceCounts, step-counts, SameZones, next-zones}
+use Rattle.model.proofs.Laws.PhyChanges.{every-write}
+use Rattle.model.proofs.Laws.Steps.{Step, KeptBy, every-change, next-step, step-fixed, step-phys, DeviceCounts, step-counts}
+use Rattle.model.proofs.Laws.Steps.{SameZones, next-zones}
 use Rattle.model.proofs.Laws.Tests.{cond-by}
 use Rattle.model.proofs.Plain.Reach.{exists-iff, reaches-nothing}
 use Rattle.model.proofs.Plain.Shelf.{SameFixed}
@@ -30,12 +33,8 @@ use Rattle.model.proofs.Plain.Zone.{legal-table}
 
 -- ---- every operation keeps it
 
--- what each change of a phy keeps
-abbrev KeepsFit : (Phy → Phy) → (Phy → Bool) → Type 0
-KeepsFit f moves = (x : Phy) → FitsOn x (f x)
-
 fit-kept : (operation : Operation) → OperationFits operation → KeptBy KeepsFit operation
-fit-kept (Ask g frame out) fit = (control-keeps, configure-keeps frame fit)
+fit-kept (Ask g frame out) fit = every-write KeepsFit frame control-keeps (configure-keeps frame fit) (asked frame)
 fit-kept (Event p source amount) fit = event-keeps source amount fit
 fit-kept (LinkChange p) fit = λ x. change-keeps (x .enabled) x
 fit-kept ReducedFunctionality fit = tt
@@ -54,7 +53,7 @@ module _ (s t : Shelf) (step : Step KeepsFit s t) where
         number = rw (fixed .number) (f .number);
         phys-size = counts .size ∙ f .phys-size;
         phys = λ p below.
-            step-phys KeepsFit FitsOn (λ x fit. fit) (λ h moves keeps x y kept fit. keeps y (kept fit)) s t step p (f .phys p below);
+            step-phys KeepsFit FitsOn (λ x fit. fit) (λ h keeps x y kept fit. keeps y (kept fit)) s t step p (f .phys p below);
         table-size = rw (fixed .table) (f .table-size);
         table = rw (fixed .table) (f .table);
         identifier-size = rw (fixed .identifier) (f .identifier-size);
@@ -143,22 +142,14 @@ above-31 s g p fits above = reaches-nothing s g p (omega arith)
 
 -- ---- The sizes alone: they are there after every start and every operation, whatever these are given.
 
-abbrev KeepsFour : (Phy → Phy) → (Phy → Bool) → Type 0
-KeepsFour f moves = (x : Phy) → Four x → Four (f x)
-
 four-kept : (operation : Operation) → KeptBy KeepsFour operation
-four-kept (Ask g frame out) = (control-four, configure-four frame)
-four-kept (Event p source amount) = event-four source amount
-four-kept (LinkChange p) = λ x. change-four (x .enabled) x
-four-kept ReducedFunctionality = tt
-four-kept Ses = tt
-four-kept (QueryReach g) = tt
+four-kept = every-change KeepsFour control-four configure-four event-four (λ x. change-four (x .enabled) x)
 
 pub next-placed : (s : Shelf) (operation : Operation) → Placed s → Placed (next s operation)
 next-placed s operation placed =
     let step : Step KeepsFour s (next s operation) = next-step KeepsFour s operation (four-kept operation) in
     let four : (p : ℕ) → Four (phyAt s p) → Four (phyAt (next s operation) p) =
-    step-phys KeepsFour (λ x y. Four x → Four y) (λ x f. f) (λ h moves keeps x y kept f. keeps y (kept f)) s (next s operation) step in
+    step-phys KeepsFour (λ x y. Four x → Four y) (λ x f. f) (λ h keeps x y kept f. keeps y (kept f)) s (next s operation) step in
     record {
       phys = step-counts KeepsFour s (next s operation) step .size ∙ placed .phys;
       errors = λ p below. four p (placed .errors p below, placed .monitors p below) .0;

@@ -7,12 +7,14 @@ use mathlib.Core.List.{map, map-map}
 use lib.Dec.{T}
 use lib.ListN.{length, getD, length-map, List·getD-map}
 use lib.Seq.{set-getD, ext-getD}
+use Rattle.model.specs.declared.Effect.{Effect}
 use Rattle.model.specs.declared.Phy.{Phy}
 use Rattle.model.specs.declared.Shelf.{Shelf}
+use Rattle.model.specs.Counting.{originateIf, quiet, carriedOut}
 use Rattle.model.specs.Reach.{reaches}
 use Rattle.model.specs.Shelf.{freshPhy, noPhy, phyAt, phyWith, shelfWith, put}
 use Rattle.model.specs.Zone.{row, rowReaches}
-use Rattle.model.proofs.Laws.PhyChanges.{Inner}
+use Rattle.model.proofs.Laws.PhyChanges.{Inner, Quiet}
 use Rattle.model.proofs.Laws.Places.{map-set}
 use Rattle.model.proofs.Laws.Tests.{is-true}
 
@@ -53,26 +55,25 @@ module _ (r : ℕ) where
       go false e = seen-hidden noPhy e
 
   -- how a change looks that keeps the group, and makes enabled or not by that alone, depends on how the phy looked
-  seen-change : (f : Phy → Phy) (enables : Bool → Bool) → Inner f enables → (x : Phy)
-      → seen r (f (seen r x)) ≡ seen r (f x)
-  seen-change f enables inner x = go (rowReaches r (x .group)) refl
+  seen-change : (f : Phy → Effect) {enables originates : Bool → Bool} → Inner f enables originates → (x : Phy)
+      → seen r (f (seen r x) .phy) ≡ seen r (f x .phy)
+  seen-change f {enables} inner x = go (rowReaches r (x .group)) refl
     where
       unseen : (y : Phy) → y .group ≡ x .group → y .enabled ≡ x .enabled → rowReaches r (x .group) ≡ false
-          → seen r (f y) ≡ hidden (x .group) (enables (x .enabled))
+          → seen r (f y .phy) ≡ hidden (x .group) (enables (x .enabled))
       unseen y same still out =
-          let group : f y .group ≡ x .group = inner .group y ∙ same in
-          let enabled : f y .enabled ≡ enables (x .enabled) = inner .enabled y ∙ ap enables still in
-          seen-hidden (f y) (ap (rowReaches r) group ∙ out) ∙ ap₂ hidden group enabled
+          let group : f y .phy .group ≡ x .group = inner .group y ∙ same in
+          let enabled : f y .phy .enabled ≡ enables (x .enabled) = inner .enabled y ∙ ap enables still in
+          seen-hidden (f y .phy) (ap (rowReaches r) group ∙ out) ∙ ap₂ hidden group enabled
 
-      go : (b : Bool) → rowReaches r (x .group) ≡ b → seen r (f (seen r x)) ≡ seen r (f x)
-      go true e = ap (λ y. seen r (f y)) (seen-reached x e)
+      go : (b : Bool) → rowReaches r (x .group) ≡ b → seen r (f (seen r x) .phy) ≡ seen r (f x .phy)
+      go true e = ap (λ y. seen r (f y .phy)) (seen-reached x e)
       go false e = unseen (seen r x) refl refl e ∙ sym (unseen x refl refl e)
 
   -- and such a change that leaves it enabled or not as it was is not seen out of reach
-  seen-stays : (f : Phy → Phy) → Inner f (λ b. b) → (x : Phy) → rowReaches r (x .group) ≡ false
-      → seen r (f x) ≡ seen r x
+  seen-stays : (f : Phy → Effect) → Quiet f → (x : Phy) → rowReaches r (x .group) ≡ false → seen r (f x .phy) ≡ seen r x
   seen-stays f inner x out =
-      seen-hidden (f x) (ap (rowReaches r) (inner .group x) ∙ out)
+      seen-hidden (f x .phy) (ap (rowReaches r) (inner .group x) ∙ out)
       ∙ ap₂ hidden (inner .group x) (inner .enabled x)
       ∙ sym (seen-hidden x out)
 
@@ -97,36 +98,38 @@ module _ (g : ℕ) (s : Shelf) where
   looks-twice =
       ap (λ phys. shelfWith s phys (s .changes) (s .expander3) (s .ses0))
       (map-map (seen (row (s .table) g)) (seen (row (s .table) g)) (s .phys)
-      ∙ ap (λ f. map f (s .phys)) (fun-ext (λ x. seen-change (row (s .table) g) (λ y. y) (λ b. b) same x)))
+      ∙ ap (λ f. map f (s .phys)) (fun-ext (λ x. seen-change (row (s .table) g) quiet same x)))
     where
-      same : Inner (λ y. y) (λ b. b)
-      same = record { group = λ x. refl; enabled = λ x. refl }
+      same : Quiet quiet
+      same = record { group = λ x. refl; enabled = λ x. refl; change = λ x. refl; change0 = λ x. refl }
 
   looks-put : (p : ℕ) (x : Phy) (count : ℕ)
       → looks g (put s p x count) ≡ put (looks g s) p (seen (row (s .table) g) x) count
   looks-put p x count =
       ap (λ phys. shelfWith s phys count (s .expander3) (s .ses0)) (map-set (seen (row (s .table) g)) (s .phys) p x)
 
-  -- A change of a phy out of reach that leaves the change count, and the phy enabled or not as it was, is not seen.
-  pub looks-stays : (p : ℕ) (f : Phy → Phy) → Inner f (λ b. b) → reaches s g p ≡ false
-      → looks g (put s p (f (phyAt s p)) (s .changes)) ≡ looks g s
+  -- What is done to a phy out of reach, and leaves the change count, and the phy enabled or not as it was, is not seen.
+  pub looks-stays : (p : ℕ) (f : Phy → Effect) → Quiet f → reaches s g p ≡ false
+      → looks g (carriedOut s p (f (phyAt s p))) ≡ looks g s
   looks-stays p f inner out =
-      looks-put p (f (phyAt s p)) (s .changes)
+      rw (inner .change (phyAt s p))
+      (looks-put p (f (phyAt s p) .phy) (s .changes)
       ∙ ap (λ x. put (looks g s) p x (s .changes)) (seen-stays (row (s .table) g) f inner (phyAt s p) out ∙ sym (looks-phy p))
-      ∙ ap (λ phys. shelfWith s phys (s .changes) (s .expander3) (s .ses0)) (set-getD (looks g s .phys) p noPhy)
+      ∙ ap (λ phys. shelfWith s phys (s .changes) (s .expander3) (s .ses0)) (set-getD (looks g s .phys) p noPhy))
 
--- How a shelf looks after a change of phy p depends on how it looked before alone.
-pub looks-change : (g : ℕ) (s : Shelf) (p : ℕ) (f : Phy → Phy) (enables : Bool → Bool) (count : Phy → ℕ)
-    → Inner f enables → ((x : Phy) → count (seen (row (s .table) g) x) ≡ count x)
-    → looks g (put (looks g s) p (f (phyAt (looks g s) p)) (count (phyAt (looks g s) p)))
-    ≡ looks g (put s p (f (phyAt s p)) (count (phyAt s p)))
-looks-change g s p f enables count inner counts =
+-- How a shelf looks after what is done to phy p depends on how it looked before alone.
+pub looks-change : (g : ℕ) (s : Shelf) (p : ℕ) (f : Phy → Effect) {enables originates : Bool → Bool} → Inner f enables originates
+    → looks g (carriedOut (looks g s) p (f (phyAt (looks g s) p))) ≡ looks g (carriedOut s p (f (phyAt s p)))
+looks-change g s p f inner =
     let r : ℕ = row (s .table) g in
-    ap (λ x. looks g (put (looks g s) p (f x) (count x))) (looks-phy g s p)
-    ∙ looks-put g (looks g s) p (f (seen r (phyAt s p))) (count (seen r (phyAt s p)))
-    ∙ ap (λ t. put t p (seen r (f (seen r (phyAt s p)))) (count (seen r (phyAt s p)))) (looks-twice g s)
-    ∙ ap₂ (λ x n. put (looks g s) p x n) (seen-change r f enables inner (phyAt s p)) (counts (phyAt s p))
-    ∙ sym (looks-put g s p (f (phyAt s p)) (count (phyAt s p)))
+    let x : Phy = phyAt s p in
+    let count : Effect → ℕ = λ e. originateIf (e .change) (s .changes) in
+    ap (λ y. looks g (carriedOut (looks g s) p (f y))) (looks-phy g s p)
+    ∙ looks-put g (looks g s) p (f (seen r x) .phy) (count (f (seen r x)))
+    ∙ ap (λ t. put t p (seen r (f (seen r x) .phy)) (count (f (seen r x)))) (looks-twice g s)
+    ∙ ap₂ (λ y b. put (looks g s) p y (originateIf b (s .changes))) (seen-change r f inner x)
+    (inner .change (seen r x) ∙ sym (inner .change x))
+    ∙ sym (looks-put g s p (f x .phy) (count (f x)))
 
 -- ---- The same with named fields: two shelves look the same to g.
 pub record LooksSame (g : ℕ) (s t : Shelf) : Type 0 where

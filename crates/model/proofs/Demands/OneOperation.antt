@@ -2,7 +2,7 @@
 -- alone. Assumes nothing.
 use Prim.Native.Nat.{ℕ}
 use mathlib.Core.Path.{_≡_, refl, ap, fun-ext}
-use mathlib.Core.Bool.{true, cond}
+use mathlib.Core.Bool.{Bool, true, false, cond}
 use mathlib.Core.List.{List, [], _∷_, _++_}
 use borrow.Author.Tests.{eqb-true}
 use lib.Dec.{eqb}
@@ -12,23 +12,24 @@ use Rattle.model.specs.declared.Request.the-variants.{ReportGeneral, Rep
 use Rattle.model.specs.declared.Request.the-variants.{ReportPhyErrorLog, ReportPhyEvent, PhyControl, ConfigurePhyEvent}
 use Rattle.model.specs.declared.Shelf.{Shelf}
 use Rattle.model.specs.declared.Taken.{Taken}
-use Rattle.model.specs.Counting.{originate, originateIf, eventOn, changeOn}
+use Rattle.model.specs.Counting.{originate, eventOn}
 use Rattle.model.specs.Reach.{reaches, reachSet, reachNumber, reachQuery}
 use Rattle.model.specs.Reply.{deviceListed, phyListed, broadcasts, broadcastFrame, reportGeneral, reportManufacturer}
 use Rattle.model.specs.Reply.{reportBroadcast, reportPhyErrorLog, reportPhyEvent, respond}
-use Rattle.model.specs.Reports.{eventTaken, event, linkChangeTaken, linkChange, reducedFunctionality, sesNotice}
+use Rattle.model.specs.Reports.{eventTaken, event, linkChangeTaken, linkChangeOn, linkChange, reducedFunctionality, sesNotice}
 use Rattle.model.specs.Request.{asked}
-use Rattle.model.specs.Results.{accepted, resultOf, decide}
+use Rattle.model.specs.Results.{accepted, grounds, resultOf, decide}
 use Rattle.model.specs.Runs.{Operation, Ask, Event, LinkChange, ReducedFunctionality, Ses, QueryReach, next, told}
 use Rattle.model.specs.Runs.{Told, Answered, Shown}
 use Rattle.model.specs.Server.{Handled, Sends, handle, lent, answer, served, lentAfter}
 use Rattle.model.specs.Shelf.{phyNumber, exists, shelfWith, outcome}
 use Rattle.model.specs.Tests.{joinBelow}
-use Rattle.model.specs.Writes.{controlled, controlChanges, configured, effect}
+use Rattle.model.specs.Writes.{Doing, Reads, WritesTo, doing, done, effect}
 use Rattle.model.proofs.Demands.Looks.{looks, looks-reaches, looks-reached, looks-twice, looks-change}
 use Rattle.model.proofs.Laws.Checks.{both-outcomes, read-passed}
 use Rattle.model.proofs.Laws.Handled.{verdict, both-handled, both-concluded, accepted-decided}
-use Rattle.model.proofs.Laws.PhyChanges.{enablesBy, event-inner, change-inner, configured-inner, controlled-inner}
+use Rattle.model.proofs.Laws.PhyChanges.{OfWrite, every-write, Inner, event-inner, link-change-inner}
+use Rattle.model.proofs.Laws.PhyChanges.{configured-inner, enablesBy, originatesBy, controlled-inner}
 use Rattle.model.proofs.Laws.Picked.{onlyIf-same}
 use Rattle.model.proofs.Plain.Reply.{ofPhy}
 
@@ -46,21 +47,21 @@ module _ (g : ℕ) (s : Shelf) where
 
   -- ---- the effect of a request
 
+  looks-done : (does : Doing)
+      → OfWrite (λ p f. (enables : Bool → Bool) × (originates : Bool → Bool) × Inner f enables originates) does
+      → looks g (done (looks g s) does) ≡ looks g (done s does)
+  looks-done Reads inner = looks-twice g s
+  looks-done (WritesTo p f) (enables, originates, inner) = looks-change g s p f inner
+
   looks-effect : (frame : List ℕ) (request : Request)
       → looks g (effect (looks g s) frame request) ≡ looks g (effect s frame request)
-  unfolding effect controlChanges
-  looks-effect frame ReportGeneral = looks-twice g s
-  looks-effect frame ReportManufacturer = looks-twice g s
-  looks-effect frame (ReportBroadcast kind) = looks-twice g s
-  looks-effect frame (ReportPhyErrorLog p) = looks-twice g s
-  looks-effect frame (ReportPhyEvent p) = looks-twice g s
-  looks-effect frame (PhyControl expected p operation) =
-      looks-change g s p (controlled operation) (enablesBy operation)
-      (λ x. originateIf (controlChanges operation x) (s .changes))
-      (controlled-inner operation)
-      (λ x. refl)
-  looks-effect frame (ConfigurePhyEvent expected clear p d) =
-      looks-change g s p (configured frame d clear) (λ b. b) (λ x. s .changes) (configured-inner frame d clear) (λ x. refl)
+  unfolding effect
+  looks-effect frame request =
+      looks-done (doing frame request)
+      (every-write (λ f. (enables : Bool → Bool) × (originates : Bool → Bool) × Inner f enables originates) frame
+      (λ operation. (enablesBy operation, originatesBy operation, controlled-inner operation))
+      (λ d clear. (λ b. b, λ b. false, configured-inner frame d clear))
+      request)
 
   -- ---- responses to g itself
 
@@ -79,8 +80,8 @@ module _ (g : ℕ) (s : Shelf) where
   looks-respond frame ReportGeneral e = refl
   looks-respond frame ReportManufacturer e = refl
   looks-respond frame (ReportBroadcast kind) e = ap (broadcastFrame (s .changes) kind) (looks-broadcasts kind)
-  looks-respond frame (ReportPhyErrorLog p) e = ap (reportPhyErrorLog (s .changes) p) (looks-reached g s p (read-passed (exists s p) (reaches s g p) e .1))
-  looks-respond frame (ReportPhyEvent p) e = ap (reportPhyEvent (s .changes) p) (looks-reached g s p (read-passed (exists s p) (reaches s g p) e .1))
+  looks-respond frame (ReportPhyErrorLog p) e = ap (reportPhyErrorLog (s .changes) p) (looks-reached g s p (read-passed (grounds s g p) e .1))
+  looks-respond frame (ReportPhyEvent p) e = ap (reportPhyEvent (s .changes) p) (looks-reached g s p (read-passed (grounds s g p) e .1))
   looks-respond frame (PhyControl expected p operation) e = refl
   looks-respond frame (ConfigurePhyEvent expected clear p d) e = refl
 
@@ -126,10 +127,10 @@ module _ (g : ℕ) (s : Shelf) where
   looks-next (Ask h frame out) = looks-handle h frame (length out)
   looks-next (Event p source amount) =
       looks-outcome (eventTaken (exists s p) source amount) _ _
-      (looks-change g s p (eventOn source amount) (λ b. b) (λ x. s .changes) (event-inner source amount) (λ x. refl))
+      (looks-change g s p (eventOn source amount) (event-inner source amount))
   looks-next (LinkChange p) =
       looks-outcome (linkChangeTaken (exists s p)) _ _
-      (looks-change g s p (λ x. changeOn (x .enabled) x) (λ b. b) (λ x. originate (s .changes)) change-inner (λ x. refl))
+      (looks-change g s p linkChangeOn link-change-inner)
   looks-next ReducedFunctionality =
       ap (λ t. shelfWith t (t .phys) (t .changes) (originate (s .expander3)) (t .ses0)) (looks-twice g s)
   looks-next Ses =

@@ -21,7 +21,7 @@ use Rattle.model.specs.Bytes.{byte}
 use Rattle.model.specs.Counting.{originate, eventOn, changeOn}
 use Rattle.model.specs.House.{houseNumber, takenNumber, answerNumber}
 use Rattle.model.specs.Reach.{reachSet, reachNumber, reachQuery}
-use Rattle.model.specs.Reports.{eventTaken, event, linkChangeTaken, linkChange, reducedFunctionality, sesNotice}
+use Rattle.model.specs.Reports.{eventTaken, event, linkChangeTaken, linkChangeOn, linkChange, reducedFunctionality, sesNotice}
 use Rattle.model.specs.Server.{served, lentAfter}
 use Rattle.model.specs.Shelf.{exists, phyAt, put, putDevice, freshShelf, noShelf, outcome, startTaken, start}
 use Rattle.model.proofs.Demands.Refusals.{startRefusals, requestRefusals, phyRefusal, eventRefusals, start-gives}
@@ -114,14 +114,14 @@ every-start n groups table identifier =
     (start-gives n groups table identifier)
 
 pub every-event : (s : Shelf) (p source amount : ℕ)
-    → TakenEnds (eventRefusals s p source amount) 7 s (put s p (eventOn source amount (phyAt s p)) (s .changes)) (event s p source amount)
-unfolding event
+    → TakenEnds (eventRefusals s p source amount) 7 s (put s p (eventOn source amount (phyAt s p) .phy) (s .changes)) (event s p source amount)
+unfolding event eventOn
 every-event s p source amount =
     every-taken (eventRefusals s p source amount) 7 (eventTaken (exists s p) source amount) s _ (event-gives s p source amount)
 
 pub every-link-change : (s : Shelf) (p : ℕ)
-    → TakenEnds (phyRefusal s p ∷ []) 7 s (put s p (changeOn (phyAt s p .enabled) (phyAt s p)) (originate (s .changes))) (linkChange s p)
-unfolding linkChange
+    → TakenEnds (phyRefusal s p ∷ []) 7 s (put s p (linkChangeOn (phyAt s p) .phy) (originate (s .changes))) (linkChange s p)
+unfolding linkChange changeOn
 every-link-change s p =
     every-taken (phyRefusal s p ∷ []) 7 (linkChangeTaken (exists s p)) s _ (link-change-gives s p)
 

@@ -14,7 +14,7 @@ use Rattle.model.specs.House.{takenNumber, answerNumber, queryNumber}
 use Rattle.model.specs.Reach.{reachQuery}
 use Rattle.model.specs.Reports.{eventTaken, event, linkChangeTaken, linkChange}
 use Rattle.model.specs.Request.{badFrame}
-use Rattle.model.specs.Server.{Handled, answer, lent, served, lentAfter}
+use Rattle.model.specs.Server.{leastBuffer, Handled, answer, lent, served, lentAfter}
 use Rattle.model.specs.Shelf.{exists, noShelf, groupsFit, startTaken, start}
 use Rattle.model.specs.Sources.{supported}
 use Rattle.model.specs.Tests.{within}
@@ -47,7 +47,7 @@ sourceRefusal g = 31 < g
 abbrev pub requestRefusals : ℕ → List ℕ → List ℕ → List (Type 0)
 requestRefusals g frame out =
     sourceRefusal g
-    ∷ (length out < 1028)
+    ∷ (length out < leastBuffer)
     ∷ ((length frame < 4) ⊎ (byte frame 0 ≡ 0x40 → ⊥))
     ∷ []
 
@@ -84,7 +84,7 @@ start-gives n groups table identifier =
 -- nothing after H6 refuses
 request-number : (s : Shelf) (g : ℕ) (frame out : List ℕ)
     → answerNumber (served s g frame out .answer)
-    ≡ firstGiven (ltb 31 g ∷ ltb (length out) 1028 ∷ badFrame frame ∷ []) 4
+    ≡ firstGiven (ltb 31 g ∷ ltb (length out) leastBuffer ∷ badFrame frame ∷ []) 4
 unfolding served
 request-number s g frame out = rw (handled s g frame (length out)) (simp (check-map number, answered))
   where
@@ -98,8 +98,8 @@ pub request-gives : (s : Shelf) (g : ℕ) (frame out : List ℕ)
     → Gives (requestRefusals g frame out) 4 (answerNumber (served s g frame out .answer))
 request-gives s g frame out =
     rw (request-number s g frame out)
-    (row-gives (ltb 31 g ∷ ltb (length out) 1028 ∷ badFrame frame ∷ []) (requestRefusals g frame out) 4 (omega arith)
-    (ltb-iff 31 g, (ltb-iff (length out) 1028, (bad-frame frame, tt))))
+    (row-gives (ltb 31 g ∷ ltb (length out) leastBuffer ∷ badFrame frame ∷ []) (requestRefusals g frame out) 4 (omega arith)
+    (ltb-iff 31 g, (ltb-iff (length out) leastBuffer, (bad-frame frame, tt))))
 
 pub event-gives : (s : Shelf) (p source amount : ℕ)
     → Gives (eventRefusals s p source amount) 7 (takenNumber (event s p source amount .taken))

@@ -18,7 +18,7 @@ use Rattle.model.specs.House.{answerNumber}
 use Rattle.model.specs.Reach.{reaches}
 use Rattle.model.specs.Reply.{failed, respond}
 use Rattle.model.specs.Request.{functionOf, asked, known, lengthRight, descriptorSource, firstUnsupported}
-use Rattle.model.specs.Results.{resultCode, accepted, countRight, knownOperation, resultOf, decide}
+use Rattle.model.specs.Results.{resultCode, accepted, grounds, countRight, knownOperation, resultOf, decide}
 use Rattle.model.specs.Server.{Sends, answer, lent, handle, served, lentAfter}
 use Rattle.model.specs.Shelf.{exists}
 use Rattle.model.specs.Sources.{supported}
@@ -72,12 +72,16 @@ failures s g frame =
 abbrev pub onlyFor : List ℕ → ℕ → Bool → Bool
 onlyFor functions function test = not (oneOf functions function) || test
 
+-- the expected count of a write, in bytes 4 and 5, is right
+abbrev pub countPasses : Shelf → ℕ → List ℕ → Bool
+countPasses s g frame = countRight (grounds s g (byte frame 9)) (word frame 4)
+
 -- of a frame, which has this function
 abbrev checksFor : Shelf → ℕ → List ℕ → ℕ → List (ℕ × Bool)
 checksFor s g frame f =
     (0x01, known f)
     ∷ (0x03, lengthRight frame)
-    ∷ (0x04, onlyFor (0x91 ∷ 0x93 ∷ []) f (countRight (s .changes) (word frame 4)))
+    ∷ (0x04, onlyFor (0x91 ∷ 0x93 ∷ []) f (countPasses s g frame))
     ∷ (0x10, onlyFor (0x11 ∷ 0x14 ∷ 0x91 ∷ 0x93 ∷ []) f (exists s (byte frame 9)))
     ∷ (0x16, onlyFor (0x11 ∷ 0x14 ∷ []) f (reaches s g (byte frame 9)))
     ∷ (0x20, onlyFor (0x91 ∷ 0x93 ∷ []) f (reaches s g (byte frame 9)))
@@ -139,7 +143,7 @@ checks-tell : (s : Shelf) (g : ℕ) (frame : List ℕ) → Tell (checks s g fram
 checks-tell s g frame =
     tell (Iff·not (known-iff (functionOf frame)))
     (tell (Iff·not (length-right frame))
-    (tell (only-for-iff (0x91 ∷ 0x93 ∷ []) frame (countRight (s .changes) (word frame 4)) (count-right (s .changes) (word frame 4)))
+    (tell (only-for-iff (0x91 ∷ 0x93 ∷ []) frame (countPasses s g frame) (count-right (grounds s g (byte frame 9)) (word frame 4)))
     (tell (only-for-iff (0x11 ∷ 0x14 ∷ 0x91 ∷ 0x93 ∷ []) frame (exists s (byte frame 9)) Iff·rfl)
     (tell (only-for-iff (0x11 ∷ 0x14 ∷ []) frame (reaches s g (byte frame 9)) Iff·rfl)
     (tell (only-for-iff (0x91 ∷ 0x93 ∷ []) frame (reaches s g (byte frame 9)) Iff·rfl)

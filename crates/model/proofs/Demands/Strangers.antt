@@ -6,28 +6,26 @@ use native.Mathlib.Nat.{eq-zero-or-pos}
 use native.Mathlib.Omega.{arith}
 use mathlib.Core.Path.{_≡_, refl, _∙_}
 use mathlib.Core.Logic.{⊎-elim}
-use mathlib.Core.Bool.{Bool, true, false, cond, _||_}
+use mathlib.Core.Bool.{Bool, false, cond, _||_}
 use mathlib.Core.List.{List, [], _∷_, List·Memᴰ·head, List·Memᴰ·tail}
 use lib.Dec.{T}
 use lib.ListN.{length}
-use Rattle.model.specs.declared.Request.{Request}
-use Rattle.model.specs.declared.Request.the-variants.{ReportGeneral, ReportManufacturer, ReportBroadcast}
-use Rattle.model.specs.declared.Request.the-variants.{ReportPhyErrorLog, ReportPhyEvent, PhyControl, ConfigurePhyEvent}
 use Rattle.model.specs.declared.Shelf.{Shelf}
-use Rattle.model.specs.Bytes.{byte, word}
+use Rattle.model.specs.Bytes.{byte}
 use Rattle.model.specs.House.{answerNumber}
 use Rattle.model.specs.Reach.{reaches}
 use Rattle.model.specs.Reports.{eventTaken, event, linkChangeTaken, linkChange, reducedFunctionality, sesNotice}
 use Rattle.model.specs.Request.{functionOf, known, lengthRight, asked}
-use Rattle.model.specs.Results.{resultCode, accepted, countRight, checkOperation, checkDescriptors, resultOf, decide}
+use Rattle.model.specs.Results.{resultCode, grounds}
 use Rattle.model.specs.Server.{served, lentAfter}
 use Rattle.model.specs.Shelf.{exists, phyAt}
 use Rattle.model.specs.Tests.{check, oneOf}
-use Rattle.model.specs.Writes.{effect}
+use Rattle.model.specs.Writes.{Doing, Reads, WritesTo, doing, done, effect}
 use Rattle.model.proofs.Demands.Refusals.{request-refusal}
-use Rattle.model.proofs.Demands.Results.{Of, NotRefused, verdict-checks, result-byte, Failed, failed-result}
-use Rattle.model.proofs.Laws.Checks.{every-outcome, write-passed}
+use Rattle.model.proofs.Demands.Results.{Of, NotRefused, countPasses, verdict-checks, result-byte, Failed, failed-result}
+use Rattle.model.proofs.Laws.Checks.{Granting, every-outcome}
 use Rattle.model.proofs.Laws.Handled.{verdict, handled-all, accepted-decided}
+use Rattle.model.proofs.Laws.PhyChanges.{OfWrite, write-granted}
 use Rattle.model.proofs.Laws.Tests.{is-false, by-each, check-both, cond-both}
 use Rattle.model.proofs.Plain.Request.{phyFunctions}
 use Rattle.model.proofs.Plain.Shelf.{OnlyPhy, same-only, put-only, put-other}
@@ -49,16 +47,15 @@ strangerCode function lengthPasses countPasses there =
     (cond read 0x16 0x20)))
 
 -- the code that a frame so draws on a shelf
-abbrev pub codeFor : Shelf → List ℕ → ℕ
-codeFor s frame =
-    strangerCode (functionOf frame) (lengthRight frame) (countRight (s .changes) (word frame 4)) (exists s (byte frame 9))
+abbrev pub codeFor : Shelf → ℕ → List ℕ → ℕ
+codeFor s g frame = strangerCode (functionOf frame) (lengthRight frame) (countPasses s g frame) (exists s (byte frame 9))
 
 stranger-verdict : (s : Shelf) (g : ℕ) (frame : List ℕ) → Strange s g frame
-    → resultCode (verdict s g frame) ≡ codeFor s frame
+    → resultCode (verdict s g frame) ≡ codeFor s g frame
 unfolding known
 stranger-verdict s g frame strange =
     let out : reaches s g (byte frame 9) ≡ false = is-false (reaches s g (byte frame 9)) (strange .unreached) in
-    by-each (resultCode (verdict s g frame) ≡ codeFor s frame) (functionOf frame) phyFunctions (strange .function)
+    by-each (resultCode (verdict s g frame) ≡ codeFor s g frame) (functionOf frame) phyFunctions (strange .function)
     (λ e. rw (verdict-checks s g frame, e, out))
     (λ e. rw (verdict-checks s g frame, e, out))
     (λ e. rw (verdict-checks s g frame, e, out))
@@ -73,11 +70,11 @@ code-some function a b c =
 
 -- it is a failed result, so the shelf and the rest of the buffer are as before, and its code is that one
 pub stranger-answered : (s : Shelf) (g : ℕ) (frame out : List ℕ) → NotRefused s g frame out → Strange s g frame
-    → Failed s g frame out (codeFor s frame)
+    → Failed s g frame out (codeFor s g frame)
 stranger-answered s g frame out answered strange =
-    failed-result s g frame out (codeFor s frame) answered
+    failed-result s g frame out (codeFor s g frame) answered
     (result-byte s g frame out answered ∙ stranger-verdict s g frame strange)
-    (code-some (functionOf frame) (lengthRight frame) (countRight (s .changes) (word frame 4)) (exists s (byte frame 9)))
+    (code-some (functionOf frame) (lengthRight frame) (countPasses s g frame) (exists s (byte frame 9)))
 
 -- refused or answered, it leaves the shelf as it was
 pub stranger-stays : (s : Shelf) (g : ℕ) (frame out : List ℕ) → Strange s g frame → served s g frame out .shelf ≡ s
@@ -90,14 +87,14 @@ stranger-stays s g frame out strange =
 pub strangers-learn-nothing : (s t : Shelf) (g h : ℕ) (frame frame′ out : List ℕ)
     → NotRefused s g frame out → NotRefused t h frame′ out → Strange s g frame → Strange t h frame′
     → functionOf frame ≡ functionOf frame′ → lengthRight frame ≡ lengthRight frame′
-    → (Of (0x91 ∷ 0x93 ∷ []) frame → countRight (s .changes) (word frame 4) ≡ countRight (t .changes) (word frame′ 4))
+    → (Of (0x91 ∷ 0x93 ∷ []) frame → countPasses s g frame ≡ countPasses t h frame′)
     → exists s (byte frame 9) ≡ exists t (byte frame′ 9)
     → (served s g frame out .answer ≡ served t h frame′ out .answer) × (lentAfter s g frame out ≡ lentAfter t h frame′ out)
 strangers-learn-nothing s t g h frame frame′ out answered answered′ strange strange′ function lengths counts there =
-    let one : Failed s g frame out (codeFor s frame) = stranger-answered s g frame out answered strange in
-    let other : Failed t h frame′ out (codeFor t frame′) = stranger-answered t h frame′ out answered′ strange′ in
-    let code : codeFor s frame ≡ codeFor t frame′ =
-    by-each (codeFor s frame ≡ codeFor t frame′) (functionOf frame) phyFunctions (strange .function)
+    let one : Failed s g frame out (codeFor s g frame) = stranger-answered s g frame out answered strange in
+    let other : Failed t h frame′ out (codeFor t h frame′) = stranger-answered t h frame′ out answered′ strange′ in
+    let code : codeFor s g frame ≡ codeFor t h frame′ =
+    by-each (codeFor s g frame ≡ codeFor t h frame′) (functionOf frame) phyFunctions (strange .function)
     (λ e. rw (← function, e, lengths, there))
     (λ e. rw (← function, e, lengths, there))
     (λ e. rw (← function, counts (List·Memᴰ·head e), lengths, there))
@@ -106,27 +103,20 @@ strangers-learn-nothing s t g h frame frame′ out answered answered′ strange 
 
 -- ---- No request of a group changes any number of a phy that the group does not reach.
 
-effect-elsewhere : (s : Shelf) (g : ℕ) (frame : List ℕ) (request : Request) (q : ℕ) → (T (reaches s g q) → ⊥)
-    → accepted (decide s g frame request) ≡ true → phyAt (effect s frame request) q ≡ phyAt s q
-unfolding effect decide resultOf
-effect-elsewhere s g frame ReportGeneral q out e = refl
-effect-elsewhere s g frame ReportManufacturer q out e = refl
-effect-elsewhere s g frame (ReportBroadcast kind) q out e = refl
-effect-elsewhere s g frame (ReportPhyErrorLog p) q out e = refl
-effect-elsewhere s g frame (ReportPhyEvent p) q out e = refl
-effect-elsewhere s g frame (PhyControl expected p operation) q out e =
-    let reached = write-passed (countRight (s .changes) expected) (exists s p) (reaches s g p) (checkOperation operation) e .1 in
-    put-other s p _ (s .changes) q (λ same. out (rw (same, reached) tt))
-effect-elsewhere s g frame (ConfigurePhyEvent expected clear p d) q out e =
-    let reached = write-passed (countRight (s .changes) expected) (exists s p) (reaches s g p) (checkDescriptors frame d) e .1 in
-    put-other s p _ (s .changes) q (λ same. out (rw (same, reached) tt))
+done-elsewhere : (s : Shelf) (g : ℕ) (does : Doing) (q : ℕ) → (T (reaches s g q) → ⊥)
+    → OfWrite (λ p f. Granting (grounds s g p)) does → phyAt (done s does) q ≡ phyAt s q
+done-elsewhere s g Reads q out granted = refl
+done-elsewhere s g (WritesTo p f) q out granted =
+    put-other s p (f (phyAt s p) .phy) (s .changes) q (λ same. out (rw (same, granted .1) tt))
 
 pub request-elsewhere : (s : Shelf) (g : ℕ) (frame out : List ℕ) (q : ℕ) → (T (reaches s g q) → ⊥)
     → phyAt (served s g frame out .shelf) q ≡ phyAt s q
-unfolding served
+unfolding served effect
 request-elsewhere s g frame out q unreached =
     handled-all (λ h. phyAt (h .shelf) q ≡ phyAt s q) s g frame (length out) (λ house. refl) refl
-    (λ e. effect-elsewhere s g frame (asked frame) q unreached (accepted-decided s g frame e .2))
+    (λ e.
+    done-elsewhere s g (doing frame (asked frame)) q unreached
+    (write-granted s g frame (asked frame) (accepted-decided s g frame e .2)))
 
 -- ---- Reports of a phy change that phy alone, and the device notices change none.
 

@@ -7,7 +7,6 @@ use mathlib.Core.List.{List, [], List·Memᴰ·head, List·Memᴰ·tail}
 use borrow.Author.Tests.{ne-eqb}
 use lib.Dec.{T, eqb}
 use lib.ListN.{length}
-use Rattle.model.specs.declared.Phy.{Phy}
 use Rattle.model.specs.declared.Shelf.{Shelf}
 use Rattle.model.specs.Bytes.{byte}
 use Rattle.model.specs.Counting.{eventOn}
@@ -16,12 +15,12 @@ use Rattle.model.specs.Reach.{reaches}
 use Rattle.model.specs.Reports.{eventTaken, event}
 use Rattle.model.specs.Request.{functionOf, clears, asked}
 use Rattle.model.specs.Runs.{Operation, Ask, Event, LinkChange, ReducedFunctionality, Ses, QueryReach, next, told}
-use Rattle.model.specs.Shelf.{exists, phyAt}
-use Rattle.model.specs.Writes.{controlled, controlChanges, configured, effect}
+use Rattle.model.specs.Shelf.{exists}
+use Rattle.model.specs.Writes.{controlled, configured, doing, effect}
 use Rattle.model.proofs.Demands.Looks.{looks, looks-stays}
 use Rattle.model.proofs.Laws.Checks.{every-outcome}
 use Rattle.model.proofs.Laws.Handled.{handled-all}
-use Rattle.model.proofs.Laws.PhyChanges.{Inner, event-inner, configured-inner, controlled-inner}
+use Rattle.model.proofs.Laws.PhyChanges.{Quiet, event-inner, configured-inner, controlled-inner}
 use Rattle.model.proofs.Laws.Steps.{SameZones}
 use Rattle.model.proofs.Laws.Tests.{is-false, by-each}
 use Rattle.model.proofs.Plain.CrossedOut.{CrossedRequest, crossed-request-iff, crossed-event-iff}
@@ -30,23 +29,20 @@ use Rattle.model.proofs.Plain.Request.{phyFunctions, asked-91, asked-93
 -- ---- a request
 
 -- a 91h that is neither link reset nor disable leaves the change count, and the phy enabled or not as it was
-module _ (operation : ℕ) (not-reset : eqb operation 0x01 ≡ false) (not-disable : eqb operation 0x03 ≡ false) where
-  quiet-inner : Inner (controlled operation) (λ b. b)
-  quiet-inner =
-      record {
-        group = controlled-inner operation .group;
-        enabled = λ x. rw (not-reset, not-disable) at (controlled-inner operation .enabled x);
-      }
-
-  quiet-count : (x : Phy) → controlChanges operation x ≡ false
-  unfolding controlChanges
-  quiet-count x = rw (not-reset, not-disable)
+quiet-control : (operation : ℕ) → eqb operation 0x01 ≡ false → eqb operation 0x03 ≡ false → Quiet (controlled operation)
+quiet-control operation not-reset not-disable =
+    record {
+      group = controlled-inner operation .group;
+      enabled = λ x. rw (not-reset, not-disable) at (controlled-inner operation .enabled x);
+      change = λ x. rw (not-reset, not-disable) at (controlled-inner operation .change x);
+      change0 = controlled-inner operation .change0;
+    }
 
 module _ (g : ℕ) (s : Shelf) where
   -- the effect of a crossed-out request, by its function
   unseen-effect : (h : ℕ) (frame : List ℕ) → CrossedRequest g s h frame
       → looks g (effect s frame (asked frame)) ≡ looks g s
-  unfolding effect asked
+  unfolding effect doing asked
   unseen-effect h frame crossed =
       by-each (looks g (effect s frame (asked frame)) ≡ looks g s) (functionOf frame) phyFunctions (crossed .about .0)
       (λ e. rw e)
@@ -64,8 +60,8 @@ module _ (g : ℕ) (s : Shelf) where
           let no-disable : eqb (byte frame 10) 0x03 ≡ false =
           ne-eqb (byte frame 10) 0x03
           (λ same. crossed .no-reset-or-disable (crossed .about, e, List·Memᴰ·tail (List·Memᴰ·head same))) in
-          rw (asked-91 frame e, quiet-count (byte frame 10) no-reset no-disable (phyAt s (byte frame 9)))
-          (looks-stays g s (byte frame 9) (controlled (byte frame 10)) (quiet-inner (byte frame 10) no-reset no-disable) out)
+          rw (asked-91 frame e)
+          (looks-stays g s (byte frame 9) (controlled (byte frame 10)) (quiet-control (byte frame 10) no-reset no-disable) out)
 
       configure : functionOf frame ≡ 0x93 → looks g (effect s frame (asked frame)) ≡ looks g s
       configure e =

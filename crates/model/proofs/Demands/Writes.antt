@@ -12,14 +12,14 @@ use Rattle.model.specs.Bytes.{byte, word}
 use Rattle.model.specs.Fits.{Placed}
 use Rattle.model.specs.Reach.{reaches}
 use Rattle.model.specs.Request.{functionOf, known, lengthRight, asked}
-use Rattle.model.specs.Results.{countRight}
+use Rattle.model.specs.Results.{grounds}
 use Rattle.model.specs.Runs.{Started}
 use Rattle.model.specs.Server.{served, lentAfter}
 use Rattle.model.specs.Shelf.{exists}
-use Rattle.model.specs.Writes.{effect}
+use Rattle.model.specs.Writes.{doing, effect}
 use Rattle.model.proofs.Demands.Effects.{Controlled, controlled-effect, Configured, configured-effect}
 use Rattle.model.proofs.Demands.Invariant.{started-placed}
-use Rattle.model.proofs.Demands.Results.{Of, SourcesAllowed, NotRefused, checks, verdict-accepted, result-byte}
+use Rattle.model.proofs.Demands.Results.{Of, SourcesAllowed, NotRefused, countPasses, checks, verdict-accepted, result-byte}
 use Rattle.model.proofs.Demands.Results.{sources-iff, failed-result, granted-result}
 use Rattle.model.proofs.Laws.Drawn.{AllPass}
 use Rattle.model.proofs.Laws.Handled.{handled-all, accepted-decided}
@@ -55,7 +55,7 @@ ConfigurePasses s g frame =
 write-iff : (s : Shelf) (g : ℕ) (frame : List ℕ) (size : ℕ) (lengths : List ℕ) {Checked Contents : Type 0}
     → T (lengthRight frame) ↔ ((length frame ≡ size) × List·Memᴰ (byte frame 3) lengths) → Checked ↔ Contents
     → (T (lengthRight frame)
-    × T (countRight (s .changes) (word frame 4))
+    × T (countPasses s g frame)
     × T (exists s (byte frame 9))
     × T (reaches s g (byte frame 9))
     × Checked)
@@ -65,14 +65,14 @@ write-iff s g frame size lengths right contents = (
       record {
         true-length = right .0 l .0;
         byte-3 = right .0 l .1;
-        count = count-right (s .changes) (word frame 4) .0 c;
+        count = count-right (grounds s g (byte frame 9)) (word frame 4) .0 c;
         phy = there;
         zone = reached;
         contents = contents .0 checked;
       },
   λ w. (
     right .1 (w .true-length, w .byte-3),
-    count-right (s .changes) (word frame 4) .1 (w .count),
+    count-right (grounds s g (byte frame 9)) (word frame 4) .1 (w .count),
     w .phy,
     w .zone,
     contents .1 (w .contents),
@@ -169,7 +169,7 @@ configure-write s started = placed-configure-write s (started-placed s started)
 
 pub read-stays : (s : Shelf) (g : ℕ) (frame out : List ℕ) → (Of (0x91 ∷ 0x93 ∷ []) frame → ⊥)
     → served s g frame out .shelf ≡ s
-unfolding served effect
+unfolding served effect doing
 read-stays s g frame out read =
     handled-all (λ h. h .shelf ≡ s) s g frame (length out) (λ house. refl) refl
     (λ e.

@@ -1,10 +1,13 @@
 -- What a start or a report is told, what becomes of the shelf, and what is known of a request that passed its checks. Assumes nothing.
-use Prim.Native.Nat.{_≤_}
+use Prim.Native.Nat.{ℕ, _≤_}
 use native.Mathlib.Omega.{arith}
-use mathlib.Core.Path.{_≡_, refl}
+use mathlib.Core.Path.{_≡_, refl, sym, _∙_}
 use mathlib.Core.Logic.{_↔_}
 use mathlib.Core.Bool.{Bool, true, false, false≢true}
 use Rattle.model.specs.declared.FunctionResult.{FunctionResult}
+use Rattle.model.specs.declared.FunctionResult.the-variants.{Accepted, InvalidExpanderChangeCount, PhyDoesNotExist}
+use Rattle.model.specs.declared.FunctionResult.the-variants.{PhyVacant, SmpZoneViolation}
+use Rattle.model.specs.declared.Grounds.{Grounds}
 use Rattle.model.specs.declared.House.{House}
 use Rattle.model.specs.declared.House.the-variants.{PhyNumber, PhyGroup, IllegalTable, SourceGroup, ShortBuffer}
 use Rattle.model.specs.declared.House.the-variants.{BadFrame, NoSuchPhy, EventSource, Amount}
@@ -12,8 +15,9 @@ use Rattle.model.specs.declared.Shelf.{Shelf}
 use Rattle.model.specs.declared.Taken.{Taken}
 use Rattle.model.specs.declared.Taken.the-variants.{Done, NotDone}
 use Rattle.model.specs.House.{houseNumber, takenNumber}
-use Rattle.model.specs.Results.{accepted, checkRead, checkWrite}
+use Rattle.model.specs.Results.{accepted, countRight, checkPhy, checkRead, checkWrite}
 use Rattle.model.specs.Shelf.{outcome}
+use Rattle.model.specs.Tests.{check}
 
 -- every house refusal has a number from 1 on
 pub house-some : (house : House) → 1 ≤ houseNumber house
@@ -54,14 +58,24 @@ outcome-stays (NotDone house) old new refused = refl
 
 -- ---- A read or a write that is accepted is of a phy that exists and is reached.
 
-pub read-passed : (there reached : Bool) → accepted (checkRead there reached) ≡ true → (there ≡ true) × (reached ≡ true)
-read-passed true true e = (refl, refl)
-read-passed true false e = absurd (false≢true e)
-read-passed false reached e = absurd (false≢true e)
+-- its phy exists, and its source reaches it
+abbrev pub Granting : Grounds → Type 0
+Granting on = (on .there ≡ true) × (on .reached ≡ true)
 
-pub write-passed : (count there reached : Bool) (contents : FunctionResult)
-    → accepted (checkWrite count there reached contents) ≡ true → (there ≡ true) × (reached ≡ true)
-write-passed true true true contents e = (refl, refl)
-write-passed true true false contents e = absurd (false≢true e)
-write-passed true false reached contents e = absurd (false≢true e)
-write-passed false there reached contents e = absurd (false≢true e)
+phy-passed : (there reached : Bool) (unreached rest : FunctionResult) → accepted unreached ≡ false
+    → accepted (check there PhyDoesNotExist (check reached unreached rest)) ≡ true → (there ≡ true) × (reached ≡ true)
+phy-passed true true unreached rest fails e = (refl, refl)
+phy-passed true false unreached rest fails e = absurd (false≢true (sym fails ∙ e))
+phy-passed false reached unreached rest fails e = absurd (false≢true e)
+
+pub read-passed : (on : Grounds) → accepted (checkRead on) ≡ true → Granting on
+read-passed on = phy-passed (on .there) (on .reached) PhyVacant Accepted refl
+
+pub write-passed : (on : Grounds) (expected : ℕ) (contents : FunctionResult) → accepted (checkWrite on expected contents) ≡ true
+    → Granting on
+write-passed on expected contents = go (countRight on expected)
+  where
+    go : (right : Bool) → accepted (check right InvalidExpanderChangeCount (checkPhy on SmpZoneViolation contents)) ≡ true
+        → Granting on
+    go true e = phy-passed (on .there) (on .reached) SmpZoneViolation contents refl e
+    go false e = absurd (false≢true e)

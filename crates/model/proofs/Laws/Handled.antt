@@ -15,7 +15,7 @@ use Rattle.model.specs.declared.Shelf.{Shelf}
 use Rattle.model.specs.Reply.{failed, respond}
 use Rattle.model.specs.Request.{badFrame, functionOf, known, lengthRight, asked, judge}
 use Rattle.model.specs.Results.{resultCode, accepted, decide}
-use Rattle.model.specs.Server.{Handled, Sends, refuse, fail, conclude, handleJudged, handle}
+use Rattle.model.specs.Server.{leastBuffer, Handled, Sends, refuse, fail, conclude, handleJudged, handle}
 use Rattle.model.specs.Tests.{check, given}
 use Rattle.model.specs.Writes.{effect}
 
@@ -58,7 +58,7 @@ judged s g frame = go (badFrame frame) (known (functionOf frame)) (lengthRight f
 pub handled : (s : Shelf) (g : ℕ) (frame : List ℕ) (room : ℕ)
     → handle s g frame room
     ≡ given (ltb 31 g) (refuse s SourceGroup)
-    (given (ltb room 1028) (refuse s ShortBuffer)
+    (given (ltb room leastBuffer) (refuse s ShortBuffer)
     (given (badFrame frame) (refuse s BadFrame)
     (concluded s g frame)))
 unfolding handle
@@ -70,7 +70,7 @@ module _ (P : Handled → Handled → Type 0) (s t : Shelf) (g : ℕ) (frame : L
   pub both-handled : (room : ℕ) → ((house : House) → P (refuse s house) (refuse t house))
       → P (concluded s g frame) (concluded t g frame) → P (handle s g frame room) (handle t g frame room)
   both-handled room refused rest =
-      rw (handled s g frame room, handled t g frame room) (go (ltb 31 g) (ltb room 1028) (badFrame frame))
+      rw (handled s g frame room, handled t g frame room) (go (ltb 31 g) (ltb room leastBuffer) (badFrame frame))
     where
       go : (a b c : Bool)
           → P

@@ -6,90 +6,85 @@ use mathlib.Core.Bool.{Bool, true, false}
 use mathlib.Core.List.{List}
 use lib.Dec.{T}
 use lib.ListN.{length, length-set}
+use Rattle.model.specs.declared.Effect.{Effect}
 use Rattle.model.specs.declared.Phy.{Phy}
-use Rattle.model.specs.declared.Request.{Request}
-use Rattle.model.specs.declared.Request.the-variants.{ReportGeneral, ReportManufacturer, ReportBroadcast}
-use Rattle.model.specs.declared.Request.the-variants.{ReportPhyErrorLog, ReportPhyEvent, PhyControl, ConfigurePhyEvent}
 use Rattle.model.specs.declared.Shelf.{Shelf}
-use Rattle.model.specs.Counting.{originateIf, eventOn, changeOn}
-use Rattle.model.specs.Reach.{reaches}
-use Rattle.model.specs.Reports.{eventTaken, event, linkChangeTaken, linkChange, reducedFunctionality, sesNotice}
+use Rattle.model.specs.Counting.{originateIf, carriedOut, eventOn}
+use Rattle.model.specs.Reports.{eventTaken, event, linkChangeTaken, linkChangeOn, linkChange, reducedFunctionality, sesNotice}
 use Rattle.model.specs.Request.{asked}
-use Rattle.model.specs.Results.{accepted, countRight, checkOperation, checkDescriptors, resultOf, decide}
+use Rattle.model.specs.Results.{grounds}
 use Rattle.model.specs.Runs.{Operation, Ask, Event, LinkChange, ReducedFunctionality, Ses, QueryReach, next}
-use Rattle.model.specs.Shelf.{noPhy, exists, phyAt, put, putDevice}
-use Rattle.model.specs.Writes.{controlled, controlChanges, configured, effect}
-use Rattle.model.proofs.Laws.Checks.{outcome-taken, every-outcome, write-passed}
+use Rattle.model.specs.Shelf.{noPhy, exists, phyAt, putDevice}
+use Rattle.model.specs.Writes.{controlled, configured, Doing, Reads, WritesTo, doing, done, effect}
+use Rattle.model.proofs.Laws.Checks.{Granting, outcome-taken, every-outcome}
 use Rattle.model.proofs.Laws.Handled.{handled-all, accepted-decided}
-use Rattle.model.proofs.Laws.PhyChanges.{event-inner, change-inner, configured-inner, controlled-inner}
+use Rattle.model.proofs.Laws.PhyChanges.{OfWrite, every-write, write-granted, event-inner, link-change-inner, configured-inner}
+use Rattle.model.proofs.Laws.PhyChanges.{controlled-inner}
 use Rattle.model.proofs.Laws.Places.{change-at}
 use Rattle.model.proofs.Plain.Reports.{event-done, link-change-done}
 use Rattle.model.proofs.Plain.Shelf.{SameFixed, with-fixed}
 
--- From s to t. A change of a phy is what becomes of the phy, and whether that moves the change count; each keeps what is asked.
-pub data Step (Keeps : (Phy → Phy) → (Phy → Bool) → Type 0) (s t : Shelf) : Type 0 where
+-- From s to t. Of what is done to a phy, what is asked holds.
+pub data Step (Keeps : (Phy → Effect) → Type 0) (s t : Shelf) : Type 0 where
   Stays : t ≡ s → Step Keeps s t
-  ChangesPhy : (p : ℕ) (f : Phy → Phy) (moves : Phy → Bool) → T (exists s p) → Keeps f moves
-      → t ≡ put s p (f (phyAt s p)) (originateIf (moves (phyAt s p)) (s .changes)) → Step Keeps s t
+  ChangesPhy : (p : ℕ) (f : Phy → Effect) → T (exists s p) → Keeps f → t ≡ carriedOut s p (f (phyAt s p)) → Step Keeps s t
   CountsNotice : (a b : Bool) → t ≡ putDevice s (originateIf a (s .expander3)) (originateIf b (s .ses0)) → Step Keeps s t
 
--- what is asked of the changes that an operation may make
-abbrev pub KeptBy : ((Phy → Phy) → (Phy → Bool) → Type 0) → Operation → Type 0
-KeptBy Keeps (Ask g frame out) =
-    ((operation : ℕ) → Keeps (controlled operation) (controlChanges operation))
-    × ((d : ℕ) (clear : Bool) → Keeps (configured frame d clear) (λ x. false))
-KeptBy Keeps (Event p source amount) = Keeps (eventOn source amount) (λ x. false)
-KeptBy Keeps (LinkChange p) = Keeps (λ x. changeOn (x .enabled) x) (λ x. true)
+-- what is asked of whatever an operation may do to a phy
+abbrev pub KeptBy : ((Phy → Effect) → Type 0) → Operation → Type 0
+KeptBy Keeps (Ask g frame out) = OfWrite (λ p. Keeps) (doing frame (asked frame))
+KeptBy Keeps (Event p source amount) = Keeps (eventOn source amount)
+KeptBy Keeps (LinkChange p) = Keeps linkChangeOn
 KeptBy Keeps ReducedFunctionality = Unit {0}
 KeptBy Keeps Ses = Unit {0}
 KeptBy Keeps (QueryReach g) = Unit {0}
 
-module _ (Keeps : (Phy → Phy) → (Phy → Bool) → Type 0) (s : Shelf) where
-  effect-step : (g : ℕ) (frame out : List ℕ) (request : Request) → KeptBy Keeps (Ask g frame out)
-      → accepted (decide s g frame request) ≡ true → Step Keeps s (effect s frame request)
-  unfolding effect decide resultOf
-  effect-step g frame out ReportGeneral keeps e = Stays refl
-  effect-step g frame out ReportManufacturer keeps e = Stays refl
-  effect-step g frame out (ReportBroadcast kind) keeps e = Stays refl
-  effect-step g frame out (ReportPhyErrorLog p) keeps e = Stays refl
-  effect-step g frame out (ReportPhyEvent p) keeps e = Stays refl
-  effect-step g frame out (PhyControl expected p operation) keeps e =
-      let there = write-passed (countRight (s .changes) expected) (exists s p) (reaches s g p) (checkOperation operation) e .0 in
-      ChangesPhy p (controlled operation) (controlChanges operation) (rw there tt) (keeps .0 operation) refl
-  effect-step g frame out (ConfigurePhyEvent expected clear p d) keeps e =
-      let there = write-passed (countRight (s .changes) expected) (exists s p) (reaches s g p) (checkDescriptors frame d) e .0 in
-      ChangesPhy p (configured frame d clear) (λ x. false) (rw there tt) (keeps .1 d clear) refl
+-- what holds of each of the four holds of whatever an operation does
+pub every-change : (Keeps : (Phy → Effect) → Type 0) → ((operation : ℕ) → Keeps (controlled operation))
+    → ((frame : List ℕ) (d : ℕ) (clear : Bool) → Keeps (configured frame d clear))
+    → ((source amount : ℕ) → Keeps (eventOn source amount)) → Keeps linkChangeOn → (operation : Operation) → KeptBy Keeps operation
+every-change Keeps control configure event change (Ask g frame out) = every-write Keeps frame control (configure frame) (asked frame)
+every-change Keeps control configure event change (Event p source amount) = event source amount
+every-change Keeps control configure event change (LinkChange p) = change
+every-change Keeps control configure event change ReducedFunctionality = tt
+every-change Keeps control configure event change Ses = tt
+every-change Keeps control configure event change (QueryReach g) = tt
+
+module _ (Keeps : (Phy → Effect) → Type 0) (s : Shelf) where
+  done-step : (g : ℕ) (does : Doing) → OfWrite (λ p. Keeps) does → OfWrite (λ p f. Granting (grounds s g p)) does
+      → Step Keeps s (done s does)
+  done-step g Reads keeps granted = Stays refl
+  done-step g (WritesTo p f) keeps granted = ChangesPhy p f (rw (granted .0) tt) keeps refl
 
   pub next-step : (operation : Operation) → KeptBy Keeps operation → Step Keeps s (next s operation)
-  unfolding next event linkChange reducedFunctionality sesNotice
+  unfolding next event linkChange reducedFunctionality sesNotice effect
   next-step (Ask g frame out) keeps =
       handled-all (λ h. Step Keeps s (h .shelf)) s g frame (length out) (λ house. Stays refl) (Stays refl)
-      (λ e. effect-step g frame out (asked frame) keeps (accepted-decided s g frame e .2))
+      (λ e. done-step g (doing frame (asked frame)) keeps (write-granted s g frame (asked frame) (accepted-decided s g frame e .2)))
   next-step (Event p source amount) keeps =
       every-outcome (Step Keeps s) (eventTaken (exists s p) source amount) s _ (Stays refl)
-      (λ done. ChangesPhy p (eventOn source amount) (λ x. false) (event-done s p source amount .0 done .phy-exists) keeps refl)
+      (λ done. ChangesPhy p (eventOn source amount) (event-done s p source amount .0 done .phy-exists) keeps refl)
   next-step (LinkChange p) keeps =
       every-outcome (Step Keeps s) (linkChangeTaken (exists s p)) s _ (Stays refl)
-      (λ done.
-      ChangesPhy p (λ x. changeOn (x .enabled) x) (λ x. true) (link-change-done s p .0 (outcome-taken _ s _ ∙ done)) keeps refl)
+      (λ done. ChangesPhy p linkChangeOn (link-change-done s p .0 (outcome-taken _ s _ ∙ done)) keeps refl)
   next-step ReducedFunctionality keeps = CountsNotice true false refl
   next-step Ses keeps = CountsNotice false true refl
   next-step (QueryReach g) keeps = Stays refl
 
 -- What no step changes: the phy number, the table and the identifier.
-pub step-fixed : (Keeps : (Phy → Phy) → (Phy → Bool) → Type 0) (s t : Shelf) → Step Keeps s t → SameFixed s t
+pub step-fixed : (Keeps : (Phy → Effect) → Type 0) (s t : Shelf) → Step Keeps s t → SameFixed s t
 step-fixed Keeps s t (Stays e) = rw e (with-fixed s)
-step-fixed Keeps s t (ChangesPhy p f moves there keeps e) = rw e (with-fixed s)
+step-fixed Keeps s t (ChangesPhy p f there keeps e) = rw e (with-fixed s)
 step-fixed Keeps s t (CountsNotice a b e) = rw e (with-fixed s)
 
 -- What holds between a phy and itself, and still after each change, holds between each phy before the step and after it.
-pub step-phys : (Keeps : (Phy → Phy) → (Phy → Bool) → Type 0) (R : Phy → Phy → Type 0) → ((x : Phy) → R x x)
-    → ((f : Phy → Phy) (moves : Phy → Bool) → Keeps f moves → (x y : Phy) → R x y → R x (f y))
+pub step-phys : (Keeps : (Phy → Effect) → Type 0) (R : Phy → Phy → Type 0) → ((x : Phy) → R x x)
+    → ((f : Phy → Effect) → Keeps f → (x y : Phy) → R x y → R x (f y .phy))
     → (s t : Shelf) → Step Keeps s t → (q : ℕ) → R (phyAt s q) (phyAt t q)
 step-phys Keeps R same on s t (Stays e) q = rw e (same (phyAt s q))
-step-phys Keeps R same on s t (ChangesPhy p f moves there keeps e) q =
+step-phys Keeps R same on s t (ChangesPhy p f there keeps e) q =
     let x : Phy = phyAt s q in
-    rw e (change-at (R x) noPhy f (on f moves keeps x) (s .phys) p q (same x))
+    rw e (change-at (R x) noPhy (λ y. f y .phy) (on f keeps x) (s .phys) p q (same x))
 step-phys Keeps R same on s t (CountsNotice a b e) q = rw e (same (phyAt s q))
 
 -- There are as many phys as before, and each device wide count is originated, or not.
@@ -99,14 +94,14 @@ pub record DeviceCounts (s t : Shelf) : Type 0 where
   pub expander3 : (b : Bool) × (t .expander3 ≡ originateIf b (s .expander3))
   pub ses0 : (b : Bool) × (t .ses0 ≡ originateIf b (s .ses0))
 
-pub step-counts : (Keeps : (Phy → Phy) → (Phy → Bool) → Type 0) (s t : Shelf) → Step Keeps s t → DeviceCounts s t
+pub step-counts : (Keeps : (Phy → Effect) → Type 0) (s t : Shelf) → Step Keeps s t → DeviceCounts s t
 step-counts Keeps s t (Stays e) =
     rw e (record { size = refl; changes = (false, refl); expander3 = (false, refl); ses0 = (false, refl) })
-step-counts Keeps s t (ChangesPhy p f moves there keeps e) =
+step-counts Keeps s t (ChangesPhy p f there keeps e) =
     rw e
     (record {
-      size = length-set (s .phys) p (f (phyAt s p));
-      changes = (moves (phyAt s p), refl);
+      size = length-set (s .phys) p (f (phyAt s p) .phy);
+      changes = (f (phyAt s p) .change, refl);
       expander3 = (false, refl);
       ses0 = (false, refl);
     })
@@ -134,17 +129,14 @@ zones-on s t u first then =
       groups = λ p. then .groups p ∙ first .groups p;
     }
 
-abbrev KeepsGroup : (Phy → Phy) → (Phy → Bool) → Type 0
-KeepsGroup f moves = (x : Phy) → f x .group ≡ x .group
+abbrev KeepsGroup : (Phy → Effect) → Type 0
+KeepsGroup f = (x : Phy) → f x .phy .group ≡ x .group
 
 group-kept : (operation : Operation) → KeptBy KeepsGroup operation
-group-kept (Ask g frame out) =
-    (λ operation. controlled-inner operation .group, λ d clear. configured-inner frame d clear .group)
-group-kept (Event p source amount) = event-inner source amount .group
-group-kept (LinkChange p) = change-inner .group
-group-kept ReducedFunctionality = tt
-group-kept Ses = tt
-group-kept (QueryReach g) = tt
+group-kept =
+    every-change KeepsGroup (λ operation. controlled-inner operation .group) (λ frame d clear. configured-inner frame d clear .group)
+    (λ source amount. event-inner source amount .group)
+    (link-change-inner .group)
 
 pub next-zones : (s : Shelf) (operation : Operation) → SameZones s (next s operation)
 next-zones s operation =
@@ -152,5 +144,5 @@ next-zones s operation =
     record {
       fixed = step-fixed KeepsGroup s (next s operation) step;
       groups =
-          step-phys KeepsGroup (λ x y. y .group ≡ x .group) (λ x. refl) (λ f moves keeps x y e. keeps y ∙ e) s (next s operation) step;
+          step-phys KeepsGroup (λ x y. y .group ≡ x .group) (λ x. refl) (λ f keeps x y e. keeps y ∙ e) s (next s operation) step;
     }

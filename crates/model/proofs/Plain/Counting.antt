@@ -1,16 +1,17 @@
--- Originating, the two additions, the crossing of a threshold and how many monitors cross theirs, in plain logic. Assumes nothing.
-use Prim.Native.Nat.{ℕ, zero, suc, _+_, _-_, _^_, _≤_, _<_}
+-- Originating, the two additions, the crossing of a threshold and which monitors cross theirs, in plain logic. Assumes nothing.
+use Prim.Native.Nat.{ℕ, _+_, _-_, _^_, _≤_, _<_}
 use native.Mathlib.Nat.{mod-eq-of-lt, eq-or-lt-of-le}
 use native.Mathlib.Omega.{arith}
 use mathlib.Core.Path.{_≡_, refl, ap, _∙_}
 use mathlib.Core.Logic.{_↔_, ⊎-elim, Iff·rfl, Iff·trans}
-use mathlib.Core.Bool.{Bool, true, false}
+use mathlib.Core.Bool.{Bool, true, false, cond}
 use mathlib.Core.List.{List, [], _∷_, map}
 use borrow.Author.Tests.{ne-eqb}
 use lib.Dec.{T, leb, ltb}
 use lib.ListN.{length, length-set}
 use Rattle.model.specs.declared.Monitor.{Monitor}
-use Rattle.model.specs.Counting.{originate, originateIf, addWrapping, addSaturating, counted, crosses, originateCrossings, addError}
+use Rattle.model.specs.Counting.{originate, originateIf, originateTimes, addWrapping, addSaturating, counted, crosses, crossed}
+use Rattle.model.specs.Counting.{originateCrossings, addError}
 use Rattle.model.specs.Sources.{peak}
 use Rattle.model.specs.Tests.{within}
 use Rattle.model.proofs.Laws.Tests.{all-three-iff, leb-iff, ltb-iff, cond-both}
@@ -85,42 +86,46 @@ crossed-iff old new =
       λ c. (c .on-peak, c .below, c .reached),
     )
 
--- how many of some monitors have crossed, from what they were and what they are
-pub data Crossings : List Monitor → List Monitor → ℕ → Type 0 where
-  NoMore : Crossings [] [] 0
-  Crosses : {m n : Monitor} {ms ns : List Monitor} {k : ℕ} → Crossed m n → Crossings ms ns k
-      → Crossings (m ∷ ms) (n ∷ ns) (suc k)
-  CrossesNot : {m n : Monitor} {ms ns : List Monitor} {k : ℕ} → (Crossed m n → ⊥) → Crossings ms ns k
-      → Crossings (m ∷ ms) (n ∷ ns) k
+-- which of some monitors have crossed, in their order and as they are now, from what they were and what they are
+pub data Crossings : List Monitor → List Monitor → List Monitor → Type 0 where
+  NoMore : Crossings [] [] []
+  Crosses : {m n : Monitor} {ms ns those : List Monitor} → Crossed m n → Crossings ms ns those
+      → Crossings (m ∷ ms) (n ∷ ns) (n ∷ those)
+  CrossesNot : {m n : Monitor} {ms ns those : List Monitor} → (Crossed m n → ⊥) → Crossings ms ns those
+      → Crossings (m ∷ ms) (n ∷ ns) those
 
 -- that is settled
-pub crossings-one : {ms ns : List Monitor} {j k : ℕ} → Crossings ms ns j → Crossings ms ns k → j ≡ k
+pub crossings-one : {ms ns these those : List Monitor} → Crossings ms ns these → Crossings ms ns those → these ≡ those
 crossings-one NoMore NoMore = refl
-crossings-one (Crosses c a) (Crosses d b) = ap suc (crossings-one a b)
+crossings-one (Crosses {n = n} c a) (Crosses d b) = ap (λ those. n ∷ those) (crossings-one a b)
 crossings-one (Crosses c a) (CrossesNot d b) = absurd (d c)
 crossings-one (CrossesNot c a) (Crosses d b) = absurd (c d)
 crossings-one (CrossesNot c a) (CrossesNot d b) = crossings-one a b
 
--- a count that is originated n times
-abbrev pub originated : ℕ → ℕ → ℕ
-originated zero count = count
-originated (suc n) count = originated n (originate count)
-
--- a count that was originated once for each monitor that crossed
-abbrev pub OncePerCrossing : List Monitor → List Monitor → ℕ → ℕ → Type 0
-OncePerCrossing old new before after = (k : ℕ) × Crossings old new k × (after ≡ originated k before)
-
-pub crossings-originate : (source amount : ℕ) (ms : List Monitor) (count : ℕ)
-    → OncePerCrossing ms (map (counted source amount) ms) count (originateCrossings source amount ms count)
-unfolding originateCrossings
-crossings-originate source amount [] count = (0, NoMore, refl)
-crossings-originate source amount (m ∷ ms) count =
-    go (crosses m (new .value)) refl (crossings-originate source amount ms (originateIf (crosses m (new .value)) count))
+-- those that the definition lists have crossed, and no others
+pub crossed-are : (source amount : ℕ) (ms : List Monitor)
+    → Crossings ms (map (counted source amount) ms) (crossed source amount ms)
+unfolding crossed
+crossed-are source amount [] = NoMore
+crossed-are source amount (m ∷ ms) = go (crosses m (new .value)) refl (crossed-are source amount ms)
   where
     new : Monitor
     new = counted source amount m
 
-    go : (b : Bool) → crosses m (new .value) ≡ b → {ns : List Monitor} {after : ℕ}
-        → OncePerCrossing ms ns (originateIf b count) after → OncePerCrossing (m ∷ ms) (new ∷ ns) count after
-    go true e (k, some, is) = (suc k, Crosses (crossed-iff m new .0 (rw e tt)) some, is)
-    go false e (k, some, is) = (k, CrossesNot (λ c. rw e at (crossed-iff m new .1 c)) some, is)
+    go : (b : Bool) → crosses m (new .value) ≡ b → {ns those : List Monitor} → Crossings ms ns those
+        → Crossings (m ∷ ms) (new ∷ ns) (cond b (new ∷ those) those)
+    go true e rest = Crosses (crossed-iff m new .0 (rw e tt)) rest
+    go false e rest = CrossesNot (λ c. rw e at (crossed-iff m new .1 c)) rest
+
+-- so a count is originated once for each monitor: the first, and then the others
+pub crossings-next : (source amount : ℕ) (m : Monitor) (ms : List Monitor) (count : ℕ)
+    → originateCrossings source amount (m ∷ ms) count
+    ≡ originateCrossings source amount ms (originateIf (crosses m (counted source amount m .value)) count)
+unfolding crossed
+crossings-next source amount m ms count = go (crosses m (counted source amount m .value))
+  where
+    go : (b : Bool)
+        → originateTimes (length (cond b (counted source amount m ∷ crossed source amount ms) (crossed source amount ms))) count
+        ≡ originateCrossings source amount ms (originateIf b count)
+    go true = refl
+    go false = refl
