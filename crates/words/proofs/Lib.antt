@@ -1,5 +1,9 @@
 -- Laws about the words of a shelf, and that each public promise settles its outcome.
 
+-- the low bits of a word, rows of blocks, and the blocks of a shelf
+pub mod Low
+pub mod Blocks
+pub mod Pieces
 -- where a piece stands, and what storing a piece or a whole shelf comes to
 pub mod Reading
 pub mod Laying

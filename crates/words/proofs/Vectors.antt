@@ -1,5 +1,5 @@
--- Where each number stands, on numbers: the words of shelf W freshly started, one phy all of whose numbers differ, and the bits above a
--- narrow number, which stay. By computation. Assumes nothing.
+-- Where each number stands, on numbers: the sizes, the words of shelf W freshly started, one phy all of whose numbers differ, and the bits
+-- above a narrow number, which stay. By computation. Assumes nothing.
 use Prim.Native.Nat.{ℕ}
 use mathlib.Core.Path.{_≡_, refl}
 use mathlib.Core.Bool.{false}
@@ -9,7 +9,16 @@ use Rattle.model.specs.declared.Phy.{Phy}
 use Rattle.model.specs.Shelf.{monitor}
 use Rattle.model.specs.ShelfW.{shelfW}
 use Rattle.model.proofs.Computes.{computes}
+use Rattle.words.specs.Sizes.{monitorWords, phyMonitors, phyCounts, phyWords, firstRow, firstPhy, shelfWords}
 use Rattle.words.specs.Words.{phyOf, phyOver, physOf, physOver, shelfOf, laidOver, wordsOf}
+
+-- ---- The sizes and the places
+
+pub sizes : (monitorWords ≡ 3) × (phyWords ≡ 21) × (shelfWords ≡ 548)
+sizes = (refl, refl, refl)
+
+pub begin : (phyMonitors ≡ 6) × (phyCounts ≡ 18) × (firstRow ≡ 12) × (firstPhy ≡ 44)
+begin = (refl, refl, refl, refl)
 
 -- ---- Shelf W: "Four phys, groups 8, 8, 9, 1"
 
@@ -59,7 +68,7 @@ pub back-W : shelfOf wordsW ≡ shelfW
 unfolding computes laidOver physOver phyOver shelfOf physOf phyOf
 back-W = refl
 
--- ---- One phy, over words of all ones: its 21 words, and what stays above the narrow numbers
+-- ---- One phy, over words of all ones: its words, and what stays above the narrow numbers
 
 abbrev various : Phy
 various =
@@ -73,7 +82,7 @@ various =
       expander2 = 0x53;
     }
 
-pub phy-over-ones : phyOver (replicate 21 0xFFFFFFFF) 0 various
+pub phy-over-ones : phyOver (replicate phyWords 0xFFFFFFFF) 0 various
     ≡ 8
     ∷ 0xFFFFFFFE
     ∷ 0x21
@@ -99,12 +108,12 @@ pub phy-over-ones : phyOver (replicate 21 0xFFFFFFFF) 0 various
 unfolding phyOver
 phy-over-ones = refl
 
-pub phy-back : phyOf (phyOver (replicate 21 0xFFFFFFFF) 0 various) 0 ≡ various
+pub phy-back : phyOf (phyOver (replicate phyWords 0xFFFFFFFF) 0 various) 0 ≡ various
 unfolding phyOver phyOf
 phy-back = refl
 
 -- the device wide words over words of all ones
-pub device-over-ones : take 12 (laidOver (replicate 548 0xFFFFFFFF) shelfW)
+pub device-over-ones : take 12 (laidOver (replicate shelfWords 0xFFFFFFFF) shelfW)
     ≡ 4
     ∷ 0xFFFF0001
     ∷ 0xFFFF0000

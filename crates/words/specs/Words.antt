@@ -1,5 +1,5 @@
--- The shelf in words that its caller keeps: 548 of 32 bits, which C sees as `struct smp_shelf` of firmware/kinubarsil.h. Two definitions:
--- the shelf that such words stand for, and the words with another shelf laid over them.
+-- The shelf in words of 32 bits that its caller keeps, which C sees as `struct smp_shelf` of firmware/kinubarsil.h. Two definitions: the
+-- shelf that such words stand for, and the words with another shelf laid over them. How many words there are is in `Sizes`.
 --
 -- A number that is narrower than 32 bits stands in the low bits of its word; the bits above are not read, and stay.
 use Prim.Native.Nat.{ℕ, zero, suc, _+_, _*_, _/_, _%_}
@@ -16,6 +16,7 @@ use Rattle.model.specs.declared.Taken.the-variants.{Done, NotDone}
 use Rattle.model.specs.Bytes.{byte}
 use Rattle.model.specs.Reply.{errorAt, monitorAt}
 use Rattle.model.specs.Shelf.{monitor}
+use Rattle.words.specs.Sizes.{monitorWords, phyMonitors, phyCounts, phyWords, firstRow, firstPhy, shelfWords}
 
 abbrev pub wordAt : List ℕ → ℕ → ℕ
 wordAt ws i = getD ws i 0
@@ -24,7 +25,19 @@ wordAt ws i = getD ws i 0
 abbrev pub lowSet : ℕ → ℕ → ℕ → ℕ
 lowSet size word n = word / size * size + n
 
--- ---- A monitor: 3 words, from a place on
+-- ---- A row of blocks: pieces that have as many words each, one behind another
+
+-- what n blocks of `size` words stand for, from a place on, where `of` says what one stands for
+abbrev pub rowOf : {A : Type 0} → ℕ → (List ℕ → ℕ → A) → ℕ → List ℕ → ℕ → List A
+rowOf size of zero ws at = []
+rowOf size of (suc n) ws at = of ws at ∷ rowOf size of n ws (at + size)
+
+-- the words of such blocks, each laid `over` those that stand at its place
+abbrev pub rowOver : {A : Type 0} → ℕ → (List ℕ → ℕ → A → List ℕ) → List ℕ → ℕ → List A → List ℕ
+rowOver size over ws at [] = []
+rowOver size over ws at (x ∷ xs) = over ws at x ++ rowOver size over ws (at + size) xs
+
+-- ---- A monitor, from a place on
 
 abbrev pub monitorOf : List ℕ → ℕ → Monitor
 monitorOf ws at = monitor (wordAt ws at % 0x100) (wordAt ws (at + 1)) (wordAt ws (at + 2))
@@ -32,18 +45,17 @@ monitorOf ws at = monitor (wordAt ws at % 0x100) (wordAt ws (at + 1)) (wordAt ws
 abbrev pub monitorOver : List ℕ → ℕ → Monitor → List ℕ
 monitorOver ws at m = lowSet 0x100 (wordAt ws at) (m .source) ∷ m .value ∷ m .threshold ∷ []
 
--- four monitors, one after another
+-- the four of a phy, and their places
 abbrev pub monitorsOf : List ℕ → ℕ → List Monitor
-monitorsOf ws at = monitorOf ws at ∷ monitorOf ws (at + 3) ∷ monitorOf ws (at + 6) ∷ monitorOf ws (at + 9) ∷ []
+monitorsOf ws at = rowOf monitorWords monitorOf 4 ws at
+
+abbrev pub four : List ℕ
+four = 0 ∷ 1 ∷ 2 ∷ 3 ∷ []
 
 abbrev pub monitorsOver : List ℕ → ℕ → Phy → List ℕ
-monitorsOver ws at x =
-    monitorOver ws at (monitorAt x 0)
-    ++ monitorOver ws (at + 3) (monitorAt x 1)
-    ++ monitorOver ws (at + 6) (monitorAt x 2)
-    ++ monitorOver ws (at + 9) (monitorAt x 3)
+monitorsOver ws at x = rowOver monitorWords monitorOver ws at (map (monitorAt x) four)
 
--- ---- A phy: 21 words
+-- ---- A phy
 
 unfoldable pub phyOf : List ℕ → ℕ → Phy
 phyOf ws at =
@@ -51,13 +63,13 @@ phyOf ws at =
       group = wordAt ws at;
       enabled = eqb (wordAt ws (at + 1) % 2) 1;
       errors = wordAt ws (at + 2) ∷ wordAt ws (at + 3) ∷ wordAt ws (at + 4) ∷ wordAt ws (at + 5) ∷ [];
-      monitors = monitorsOf ws (at + 6);
-      change0 = wordAt ws (at + 18) % 0x10000;
-      expander1 = wordAt ws (at + 19) % 0x10000;
-      expander2 = wordAt ws (at + 20) % 0x10000;
+      monitors = monitorsOf ws (at + phyMonitors);
+      change0 = wordAt ws (at + phyCounts) % 0x10000;
+      expander1 = wordAt ws (at + phyCounts + 1) % 0x10000;
+      expander2 = wordAt ws (at + phyCounts + 2) % 0x10000;
     }
 
--- its first six words, and its last three
+-- the words before its monitors, and those behind them
 abbrev pub headOver : List ℕ → ℕ → Phy → List ℕ
 headOver ws at x =
     x .group ∷ lowSet 2 (wordAt ws (at + 1)) (cond (x .enabled) 1 0) ∷ errorAt x 0 ∷ errorAt x 1 ∷ errorAt x 2 ∷ errorAt x 3 ∷ []
@@ -70,19 +82,16 @@ countsOver ws at x =
     ∷ []
 
 unfoldable pub phyOver : List ℕ → ℕ → Phy → List ℕ
-phyOver ws at x = headOver ws at x ++ monitorsOver ws (at + 6) x ++ countsOver ws (at + 18) x
+phyOver ws at x = headOver ws at x ++ monitorsOver ws (at + phyMonitors) x ++ countsOver ws (at + phyCounts) x
 
--- n phys, one after another
-unfoldable pub physOf : ℕ → List ℕ → ℕ → List Phy
-physOf zero ws at = []
-physOf (suc n) ws at = phyOf ws at ∷ physOf n ws (at + 21)
+-- the 24 of a shelf
+unfoldable pub physOf : List ℕ → List Phy
+physOf ws = rowOf phyWords phyOf 24 ws firstPhy
 
--- the words from a place on, with these phys laid over them
-unfoldable pub physOver : List ℕ → ℕ → List Phy → List ℕ
-physOver ws at [] = drop at ws
-physOver ws at (x ∷ xs) = phyOver ws at x ++ physOver ws (at + 21) xs
+unfoldable pub physOver : List ℕ → List Phy → List ℕ
+physOver ws xs = rowOver phyWords phyOver ws firstPhy xs
 
--- ---- The shelf: 12 words that are device wide, 32 rows, and the 24 phys from word 44 on
+-- ---- The shelf: the words that are device wide, then 32 rows, then 24 phys
 
 -- the places of the identifier's bytes
 abbrev pub eight : List ℕ
@@ -92,8 +101,8 @@ unfoldable pub shelfOf : List ℕ → Shelf
 shelfOf ws =
     record {
       number = wordAt ws 0;
-      phys = physOf 24 ws 44;
-      table = take 32 (drop 12 ws);
+      phys = physOf ws;
+      table = take 32 (drop firstRow ws);
       identifier = map (λ i. wordAt ws (4 + i) % 0x100) eight;
       changes = wordAt ws 1 % 0x10000;
       expander3 = wordAt ws 2 % 0x10000;
@@ -108,11 +117,11 @@ laidOver ws s =
     ∷ lowSet 0x10000 (wordAt ws 3) (s .ses0)
     ∷ map (λ i. lowSet 0x100 (wordAt ws (4 + i)) (byte (s .identifier) i)) eight)
     ++ s .table
-    ++ physOver ws 44 (s .phys)
+    ++ physOver ws (s .phys)
 
 -- the words of a shelf by itself: every bit above a number is 0
 abbrev pub wordsOf : Shelf → List ℕ
-wordsOf s = laidOver (replicate 548 0) s
+wordsOf s = laidOver (replicate shelfWords 0) s
 
 abbrev pub startedAs : List ℕ → Taken → Shelf → List ℕ
 startedAs ws Done s = wordsOf s

@@ -1,4 +1,4 @@
-// The shelf in lent memory: 548 words of 32 bits, in which the caller of the server keeps it.
+// The shelf in lent memory: words of 32 bits, in which the caller of the server keeps it.
 //
 // The shelf stays where it is. Its pieces are read out of the words (`read`), a phy's record or a count is put back into
 // them (`store`), and a start writes them all (`fresh`). What words stand for which shelf is a definition,
@@ -7,5 +7,21 @@ pub mod fresh;
 pub mod read;
 pub mod store;
 
-// how many words a shelf has
-pub const WORDS: usize = 548;
+// How many words a piece has, and where one begins: specs/Sizes.antt.
+
+// a monitor
+const MONITOR_WORDS: usize = 3;
+
+// a phy: its group, enabled or not and four error counts, then its four monitors, then its three broadcast counts
+const PHY_MONITORS: usize = 6;
+
+const PHY_COUNTS: usize = PHY_MONITORS + 4 * MONITOR_WORDS;
+
+const PHY_WORDS: usize = PHY_COUNTS + 3;
+
+// the shelf: what is device wide, then 32 rows, then 24 phys
+const FIRST_ROW: usize = 12;
+
+const FIRST_PHY: usize = FIRST_ROW + 32;
+
+pub const WORDS: usize = FIRST_PHY + 24 * PHY_WORDS;

@@ -1,12 +1,19 @@
 // Pieces of the shelf, read out of its words.
+use crate::FIRST_PHY;
+use crate::FIRST_ROW;
+use crate::MONITOR_WORDS;
+use crate::PHY_COUNTS;
+use crate::PHY_MONITORS;
+use crate::PHY_WORDS;
 use crate::WORDS;
 use model::Monitor;
 use model::Phy;
 use shelf::phys::fresh_phy;
 ghost use mathlib.Core.Path.{_≡_};
-ghost use Prim.Native.Nat.{_+_, _%_, _≤_};
+ghost use Prim.Native.Nat.{_+_, _*_, _%_, _≤_};
 ghost use Rattle.model.specs.Shelf.{phyAt};
 ghost use Rattle.model.specs.Zone.{row};
+ghost use Rattle.words.specs.Sizes.{monitorWords, phyWords, shelfWords};
 ghost use Rattle.words.specs.Words.{monitorOf, monitorsOf, phyOf, shelfOf};
 
 // a number of 16 bits, in the low bits of its word
@@ -18,7 +25,7 @@ pub fn low16(word: u32) -> u16
 
 // The monitor whose words begin at a place.
 fn monitor(words: &[u32; WORDS], at: usize) -> Monitor
-    requires { ⌜ at + 3 ≤ 548 ⌝ }
+    requires { ⌜ at + monitorWords ≤ shelfWords ⌝ }
     ensures { λ r. ⌜ r ≡ monitorOf (now (words .entry)) at ⌝ }
 {
     Monitor {
@@ -30,30 +37,34 @@ fn monitor(words: &[u32; WORDS], at: usize) -> Monitor
 
 // Its four monitors, one after another.
 fn monitors(words: &[u32; WORDS], at: usize) -> [Monitor; 4]
-    requires { ⌜ at + 12 ≤ 548 ⌝ }
+    requires { ⌜ at + 4 * monitorWords ≤ shelfWords ⌝ }
     ensures { λ r. ⌜ r ≡ monitorsOf (now (words .entry)) at ⌝ }
 {
+    let second = at + MONITOR_WORDS;
+    let third = second + MONITOR_WORDS;
+    let fourth = third + MONITOR_WORDS;
     [
         monitor(words, at),
-        monitor(words, at + 3),
-        monitor(words, at + 6),
-        monitor(words, at + 9),
+        monitor(words, second),
+        monitor(words, third),
+        monitor(words, fourth),
     ]
 }
 
 // The phy whose words begin at a place.
 fn phy(words: &[u32; WORDS], at: usize) -> Phy
-    requires { ⌜ at + 21 ≤ 548 ⌝ }
+    requires { ⌜ at + phyWords ≤ shelfWords ⌝ }
     ensures { λ r. ⌜ r ≡ phyOf (now (words .entry)) at ⌝ }
 {
+    let counts = at + PHY_COUNTS;
     Phy {
         group: words[at],
         enabled: words[at + 1] % 2 == 1,
         errors: [words[at + 2], words[at + 3], words[at + 4], words[at + 5]],
-        monitors: monitors(words, at + 6),
-        change0: (words[at + 18] % 0x10000) as u16,
-        expander1: (words[at + 19] % 0x10000) as u16,
-        expander2: (words[at + 20] % 0x10000) as u16,
+        monitors: monitors(words, at + PHY_MONITORS),
+        change0: (words[counts] % 0x10000) as u16,
+        expander1: (words[counts + 1] % 0x10000) as u16,
+        expander2: (words[counts + 2] % 0x10000) as u16,
     }
 }
 
@@ -64,7 +75,7 @@ pub fn phy_at(words: &[u32; WORDS], p: u32) -> Phy
     if 24 <= p {
         return fresh_phy(0);
     }
-    phy(words, 44 + 21 * (p as usize))
+    phy(words, FIRST_PHY + PHY_WORDS * (p as usize))
 }
 
 // Row g of the table; past the last there is none, and so no bit.
@@ -74,7 +85,7 @@ pub fn row(words: &[u32; WORDS], g: u32) -> u32
     if 31 < g {
         return 0;
     }
-    words[12 + (g as usize)]
+    words[FIRST_ROW + (g as usize)]
 }
 
 // a number of 8 bits, in the low bits of its word

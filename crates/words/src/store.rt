@@ -1,17 +1,20 @@
 // Pieces of the shelf, put back into its words.
+use crate::FIRST_PHY;
+use crate::MONITOR_WORDS;
+use crate::PHY_COUNTS;
+use crate::PHY_MONITORS;
+use crate::PHY_WORDS;
 use crate::WORDS;
 use model::Monitor;
 use model::Phy;
 ghost use mathlib.Core.Path.{_≡_};
 ghost use mathlib.Core.Bool.{cond};
-ghost use Prim.Native.Nat.{_+_, _≤_};
-ghost use mathlib.Core.List.{_∷_, _++_, map};
-ghost use lib.ListN.{length, take, drop, replicate};
+ghost use Prim.Native.Nat.{_+_, _*_, _≤_};
+ghost use lib.ListN.{length};
 ghost use lib.Seq.{sets};
-ghost use Rattle.model.specs.Bytes.{byte};
 ghost use Rattle.model.specs.Shelf.{put, putDevice};
-ghost use Rattle.words.specs.Words.{lowSet, monitorOver, monitorsOver, headOver, countsOver, phyOver};
-ghost use Rattle.words.specs.Words.{physOver, eight, shelfOf, laidOver, wordsOf};
+ghost use Rattle.words.specs.Sizes.{monitorWords, phyMonitors, phyWords};
+ghost use Rattle.words.specs.Words.{lowSet, monitorOver, monitorsOver, headOver, countsOver, phyOver, shelfOf, laidOver};
 
 // a word with another bit in its lowest place
 fn set_low1(word: u32, b: bool) -> u32
@@ -38,9 +41,9 @@ fn set_low16(word: u32, n: u16) -> u32
     word / 0x10000 * 0x10000 + (n as u32)
 }
 
-// The first six words of a phy, over those that begin at a place: its group, enabled or not, its four error counts.
-fn head_over(words: &[u32], at: usize, numbers: Phy) -> [u32; 6]
-    requires { ⌜ at + 6 ≤ length (now words) ⌝ }
+// The first words of a phy, over those that begin at a place: its group, enabled or not, its four error counts.
+fn head_over(words: &[u32], at: usize, numbers: Phy) -> [u32; PHY_MONITORS]
+    requires { ⌜ at + phyMonitors ≤ length (now words) ⌝ }
     ensures { λ r. ⌜ r ≡ headOver (now (words .entry)) at numbers ⌝ }
 {
     let errors = numbers.errors;
@@ -56,23 +59,26 @@ fn head_over(words: &[u32], at: usize, numbers: Phy) -> [u32; 6]
 }
 
 // The words of a monitor.
-fn monitor_over(words: &[u32], at: usize, m: Monitor) -> [u32; 3]
-    requires { ⌜ at + 3 ≤ length (now words) ⌝ }
+fn monitor_over(words: &[u32], at: usize, m: Monitor) -> [u32; MONITOR_WORDS]
+    requires { ⌜ at + monitorWords ≤ length (now words) ⌝ }
     ensures { λ r. ⌜ r ≡ monitorOver (now (words .entry)) at m ⌝ }
 {
     [set_low8(words[at], m.source), m.value, m.threshold]
 }
 
 // The words of its four monitors.
-fn monitors_over(words: &[u32], at: usize, numbers: Phy) -> [u32; 12]
-    requires { ⌜ at + 12 ≤ length (now words) ⌝ }
+fn monitors_over(words: &[u32], at: usize, numbers: Phy) -> [u32; 4 * MONITOR_WORDS]
+    requires { ⌜ at + 4 * monitorWords ≤ length (now words) ⌝ }
     ensures { λ r. ⌜ r ≡ monitorsOver (now (words .entry)) at numbers ⌝ }
 {
     let monitors = numbers.monitors;
+    let second = at + MONITOR_WORDS;
+    let third = second + MONITOR_WORDS;
+    let fourth = third + MONITOR_WORDS;
     let m0 = monitor_over(words, at, monitors[0]);
-    let m1 = monitor_over(words, at + 3, monitors[1]);
-    let m2 = monitor_over(words, at + 6, monitors[2]);
-    let m3 = monitor_over(words, at + 9, monitors[3]);
+    let m1 = monitor_over(words, second, monitors[1]);
+    let m2 = monitor_over(words, third, monitors[2]);
+    let m3 = monitor_over(words, fourth, monitors[3]);
     [
         m0[0],
         m0[1],
@@ -111,17 +117,17 @@ pub(crate) fn store(words: &mut [u32], at: usize, numbers: &[u32])
     }
 }
 
-// Writes a phy's record over the 21 words that begin at a place.
+// Writes a phy's record over the words that begin at a place.
 pub(crate) fn store_phy(words: &mut [u32], at: usize, numbers: Phy)
-    requires { ⌜ at + 21 ≤ length (now words) ⌝ }
+    requires { ⌜ at + phyWords ≤ length (now words) ⌝ }
     ensures { λ _. ⌜ now (words .exit) ≡ sets (now (words .entry)) at (phyOver (now (words .entry)) at numbers) ⌝ }
 {
     let head = head_over(words, at, numbers);
-    let monitors = monitors_over(words, at + 6, numbers);
-    let counts = counts_over(words, at + 18, numbers);
+    let monitors = monitors_over(words, at + PHY_MONITORS, numbers);
+    let counts = counts_over(words, at + PHY_COUNTS, numbers);
     store(words, at, &head);
-    store(words, at + 6, &monitors);
-    store(words, at + 18, &counts);
+    store(words, at + PHY_MONITORS, &monitors);
+    store(words, at + PHY_COUNTS, &counts);
 }
 
 // Another record for phy p, and another change count. Where there is no place for the phy, none is stored.
@@ -133,7 +139,7 @@ pub fn put(words: &mut [u32; WORDS], p: u32, numbers: Phy, changes: u16)
         all[1] = set_low16(all[1], changes);
         return;
     }
-    store_phy(all, 44 + 21 * (p as usize), numbers);
+    store_phy(all, FIRST_PHY + PHY_WORDS * (p as usize), numbers);
     all[1] = set_low16(all[1], changes);
 }
 

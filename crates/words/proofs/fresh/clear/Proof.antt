@@ -7,30 +7,19 @@ use native.Mathlib.Omega.{arith}
 use mathlib.Core.Path.{_≡_, refl, _∙_}
 use mathlib.Core.List.{_++_}
 use lib.ListN.{length, drop, replicate, length-set}
+use Rattle.words.specs.Sizes.{shelfWords}
 use Rattle.words.proofs.Whole.{zeros-more, zeros-all}
 use Rattle.words.proofs.fresh.clear.Statement.{statement}
 use Rattle.words.proofs.fresh.clear.Tie as tie
 
 abbrev Inv-loop : tie.InvT-loop
-Inv-loop words₀ i₀ words i = (i ≤ 548) × (length words ≡ 548) × (words ≡ replicate i 0 ++ drop i words₀)
+Inv-loop words₀ i₀ words i = (i ≤ shelfWords) × (length words ≡ shelfWords) × (words ≡ replicate i 0 ++ drop i words₀)
 
 abbrev μ-loop : tie.MeasureT-loop
-μ-loop words₀ i₀ words i = 548 - i
+μ-loop words₀ i₀ words i = shelfWords - i
 
 loop-holds : tie.Need-loop-holds Inv-loop μ-loop
 loop-holds c = (omega arith, search needs, refl)
-
-mul-words : tie.Need-mul-words Inv-loop μ-loop
-mul-words c = search needs
-
-slice-write-words : tie.Need-slice-write-words Inv-loop μ-loop
-slice-write-words c = search needs
-
-add-i : tie.Need-add-i Inv-loop μ-loop
-add-i c = search needs
-
-loop-less : tie.Need-loop-less Inv-loop μ-loop
-loop-less c = search needs
 
 loop-again : tie.Need-loop-again Inv-loop μ-loop
 loop-again c =
@@ -41,14 +30,11 @@ loop-again c =
           (zeros-more (turn .before .args .words .now) (turn .loop .i) (omega arith)),
     )
 
-same-length : tie.Need-same-length Inv-loop μ-loop
-same-length c = search needs
-
 returns : tie.Need-returns Inv-loop μ-loop
 returns c =
     let a = c .before .before .args in
-    let done : c .before .loop .i ≡ 548 = omega arith in
-    c .before .loop .inv .2 ∙ rw done (zeros-all (a .words .now) 548 (omega arith))
+    let done : c .before .loop .i ≡ shelfWords = omega arith in
+    c .before .loop .inv .2 ∙ rw done (zeros-all (a .words .now) shelfWords (omega arith))
 
 pub clear-spec : {M : Type 1} → statement M
 clear-spec =
@@ -57,10 +43,10 @@ clear-spec =
     Inv-loop
     μ-loop
     loop-holds
-    mul-words
-    slice-write-words
-    add-i
-    loop-less
+    (λ c. search needs)
+    (λ c. search needs)
+    (λ c. search needs)
+    (λ c. search needs)
     loop-again
-    same-length
+    (λ c. search needs)
     returns)

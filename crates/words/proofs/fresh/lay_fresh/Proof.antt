@@ -5,18 +5,6 @@ use Rattle.words.proofs.Whole.{fresh-laid}
 use Rattle.words.proofs.fresh.lay_fresh.Statement.{statement}
 use Rattle.words.proofs.fresh.lay_fresh.Tie as tie
 
-device-words-requires : tie.Need-device-words-requires
-device-words-requires c κs = search needs
-
-clear-requires : tie.Need-clear-requires
-clear-requires c κs = search needs
-
-lay-phys-requires : tie.Need-lay-phys-requires
-lay-phys-requires c κs = search needs
-
-lay-front-requires : tie.Need-lay-front-requires
-lay-front-requires c κs = search needs
-
 returns : tie.Need-returns
 returns c =
     let phys = c .before .before .before in
@@ -32,8 +20,8 @@ pub lay-fresh-spec : {M : Type 1} → statement M
 lay-fresh-spec =
     tie.close
     (tie.spec
-    device-words-requires
-    clear-requires
-    lay-phys-requires
-    lay-front-requires
+    (λ c κs. search needs)
+    (λ c κs. search needs)
+    (λ c κs. search needs)
+    (λ c κs. search needs)
     returns)

@@ -5,21 +5,6 @@ use Rattle.words.proofs.Whole.{front-stored}
 use Rattle.words.proofs.fresh.lay_front.Statement.{statement}
 use Rattle.words.proofs.fresh.lay_front.Tie as tie
 
-slice-aggregate-store : tie.Need-slice-aggregate-store
-slice-aggregate-store c = search needs
-
-store-requires : tie.Need-store-requires
-store-requires c κs = search needs
-
-slice-aggregate-store-2 : tie.Need-slice-aggregate-store-2
-slice-aggregate-store-2 c = search needs
-
-store-requires-2 : tie.Need-store-requires-2
-store-requires-2 c κs = search needs
-
-same-length : tie.Need-same-length
-same-length c = search needs
-
 returns : tie.Need-returns
 returns c =
     let second = c .before .before in
@@ -31,9 +16,9 @@ pub lay-front-spec : {M : Type 1} → statement M
 lay-front-spec =
     tie.close
     (tie.spec
-    slice-aggregate-store
-    store-requires
-    slice-aggregate-store-2
-    store-requires-2
-    same-length
+    (λ c. search needs)
+    (λ c κs. search needs)
+    (λ c. search needs)
+    (λ c κs. search needs)
+    (λ c. search needs)
     returns)

@@ -4,52 +4,32 @@ use borrow.Author.Needs.{needs}
 use Prim.Native.Nat.{_-_, _≤_}
 use native.Mathlib.Numerals.{add-one}
 use native.Mathlib.Omega.{arith}
-use mathlib.Core.Path.{_≡_, _∙_}
-use mathlib.Core.List.{_++_}
+use mathlib.Core.Path.{_≡_, refl, _∙_}
 use lib.ListN.{length, getD, take}
-use lib.Seq.{take-length}
+use lib.Seq.{sets, take-length}
 use Rattle.model.specs.Shelf.{noPhy, freshPhys}
 use Rattle.model.proofs.Plain.Start.{fresh-size}
+use Rattle.words.specs.Sizes.{firstPhy, shelfWords}
 use Rattle.words.specs.Words.{physOver}
-use Rattle.words.proofs.Whole.{phys-none, phys-more, fresh-at}
+use Rattle.words.proofs.Blocks.{row-more}
+use Rattle.words.proofs.Pieces.{phy-block}
+use Rattle.words.proofs.Whole.{fresh-at}
 use Rattle.words.proofs.fresh.lay_phys.Statement.{statement}
 use Rattle.words.proofs.fresh.lay_phys.Tie as tie
 
 abbrev Inv-loop : tie.InvT-loop
 Inv-loop words₀ number groups p₀ words p =
-    (p ≤ 24) × (length words ≡ 548) × (words ≡ take 44 words₀ ++ physOver words₀ 44 (take p (freshPhys number groups)))
+    (p ≤ 24) × (length words ≡ shelfWords) × (words ≡ sets words₀ firstPhy (physOver words₀ (take p (freshPhys number groups))))
 
 abbrev μ-loop : tie.MeasureT-loop
 μ-loop words₀ number groups p₀ words p = 24 - p
 
 loop-holds : tie.Need-loop-holds Inv-loop μ-loop
-loop-holds c = (omega arith, search needs, phys-none (c .before .args .words .now) 44)
-
-start-group-requires : tie.Need-start-group-requires Inv-loop μ-loop
-start-group-requires c κs = search needs
-
-fresh-phy-requires : tie.Need-fresh-phy-requires Inv-loop μ-loop
-fresh-phy-requires c κs = search needs
-
-cast-store-phy : tie.Need-cast-store-phy Inv-loop μ-loop
-cast-store-phy c = search needs
-
-mul-store-phy : tie.Need-mul-store-phy Inv-loop μ-loop
-mul-store-phy c = search needs
-
-add-store-phy : tie.Need-add-store-phy Inv-loop μ-loop
-add-store-phy c = search needs
-
-store-phy-requires : tie.Need-store-phy-requires Inv-loop μ-loop
-store-phy-requires c κs = search needs
-
-add-p : tie.Need-add-p Inv-loop μ-loop
-add-p c = search needs
-
-loop-less : tie.Need-loop-less Inv-loop μ-loop
-loop-less c = search needs
+unfolding physOver
+loop-holds c = (omega arith, search needs, refl)
 
 loop-again : tie.Need-loop-again Inv-loop μ-loop
+unfolding physOver
 loop-again c =
     let stored = c .before .before in
     let made = stored .before .before in
@@ -64,11 +44,8 @@ loop-again c =
       search needs,
       stored .store-phy .ensures
           ∙ rw (is, add-one)
-          (phys-more (a .words .now) 44 fresh p (omega (arith, size)) (omega (arith, size)) noPhy (turn .loop .inv .2)),
+          (row-more phy-block (a .words .now) firstPhy p fresh noPhy (omega (arith, size)) (turn .loop .inv .2)),
     )
-
-same-length : tie.Need-same-length Inv-loop μ-loop
-same-length c = search needs
 
 returns : tie.Need-returns Inv-loop μ-loop
 returns c =
@@ -83,14 +60,14 @@ lay-phys-spec =
     Inv-loop
     μ-loop
     loop-holds
-    start-group-requires
-    fresh-phy-requires
-    cast-store-phy
-    mul-store-phy
-    add-store-phy
-    store-phy-requires
-    add-p
-    loop-less
+    (λ c κs. search needs)
+    (λ c κs. search needs)
+    (λ c. search needs)
+    (λ c. search needs)
+    (λ c. search needs)
+    (λ c κs. search needs)
+    (λ c. search needs)
+    (λ c. search needs)
     loop-again
-    same-length
+    (λ c. search needs)
     returns)

@@ -6,22 +6,10 @@ use Rattle.words.proofs.Reading.{phy-there, phy-past}
 use Rattle.words.proofs.read.phy_at.Statement.{statement}
 use Rattle.words.proofs.read.phy_at.Tie as tie
 
-fresh-phy-requires : tie.Need-fresh-phy-requires
-fresh-phy-requires c κs = search needs
-
 returns : tie.Need-returns
 returns c =
     let a = c .before .before .args in
     c .fresh-phy .ensures ∙ sym (phy-past (a .words .now) (a .p) (omega arith))
-
-mul-phy : tie.Need-mul-phy
-mul-phy c = search needs
-
-add-phy : tie.Need-add-phy
-add-phy c = search needs
-
-phy-requires : tie.Need-phy-requires
-phy-requires c κs = search needs
 
 returns-2 : tie.Need-returns-2
 returns-2 c =
@@ -30,4 +18,4 @@ returns-2 c =
 
 pub phy-at-spec : {M : Type 1} → statement M
 phy-at-spec =
-    tie.close (tie.spec fresh-phy-requires returns mul-phy add-phy phy-requires returns-2)
+    tie.close (tie.spec (λ c κs. search needs) returns (λ c. search needs) (λ c. search needs) (λ c κs. search needs) returns-2)

@@ -11,19 +11,10 @@ returns c =
     let a = c .before .args in
     sym (row-past (a .words .now) (a .g) (omega arith))
 
-add-result : tie.Need-add-result
-add-result c = search needs
-
-mul-result : tie.Need-mul-result
-mul-result c = search needs
-
-element-copy-out-result : tie.Need-element-copy-out-result
-element-copy-out-result c = search needs
-
 returns-2 : tie.Need-returns-2
 returns-2 c =
     let a = c .before .before .args in
     sym (row-there (a .words .now) (a .g) (omega arith))
 
 pub row-spec : {M : Type 1} → statement M
-row-spec = tie.close (tie.spec returns add-result mul-result element-copy-out-result returns-2)
+row-spec = tie.close (tie.spec returns (λ c. search needs) (λ c. search needs) (λ c. search needs) returns-2)

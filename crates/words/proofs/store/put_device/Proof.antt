@@ -9,24 +9,6 @@ use Rattle.words.proofs.Laying.{laid-device}
 use Rattle.words.proofs.store.put_device.Statement.{statement}
 use Rattle.words.proofs.store.put_device.Tie as tie
 
-slice-read-set-low16 : tie.Need-slice-read-set-low16
-slice-read-set-low16 c = search needs
-
-set-low16-requires : tie.Need-set-low16-requires
-set-low16-requires c κs = search needs
-
-slice-write-all : tie.Need-slice-write-all
-slice-write-all c = search needs
-
-slice-read-set-low16-2 : tie.Need-slice-read-set-low16-2
-slice-read-set-low16-2 c = search needs
-
-set-low16-requires-2 : tie.Need-set-low16-requires-2
-set-low16-requires-2 c κs = search needs
-
-slice-write-all-2 : tie.Need-slice-write-all-2
-slice-write-all-2 c = search needs
-
 returns : tie.Need-returns
 returns c =
     let a = c .before .before .before .before .before .args in
@@ -44,10 +26,10 @@ pub put-device-spec : {M : Type 1} → statement M
 put-device-spec =
     tie.close
     (tie.spec
-    slice-read-set-low16
-    set-low16-requires
-    slice-write-all
-    slice-read-set-low16-2
-    set-low16-requires-2
-    slice-write-all-2
+    (λ c. search needs)
+    (λ c κs. search needs)
+    (λ c. search needs)
+    (λ c. search needs)
+    (λ c κs. search needs)
+    (λ c. search needs)
     returns)
