@@ -1,4 +1,4 @@
--- A report on a source that is no peak takes no peak to its threshold. Assumes nothing.
+-- A report on a source that is no peak takes no peak to its threshold: the list of those that cross theirs is empty. Assumes nothing.
 use Prim.Native.Nat.{ℕ}
 use native.Mathlib.Omega.{arith}
 use mathlib.Core.Path.{_≡_, refl, ap, _∙_}
@@ -7,7 +7,7 @@ use mathlib.Core.List.{List, [], _∷_}
 use borrow.Author.Tests.{eqb-true}
 use lib.Dec.{T, eqb}
 use Rattle.model.specs.declared.Monitor.{Monitor}
-use Rattle.model.specs.Counting.{counted, crosses, originateCrossings}
+use Rattle.model.specs.Counting.{counted, crosses, crossed}
 use Rattle.model.specs.Sources.{peak}
 use Rattle.model.proofs.Plain.Counting.{crosses-iff}
 
@@ -37,7 +37,7 @@ module _ (source amount : ℕ) (counts : peak source ≡ false) where
       go true e = not-a-peak m _ (ap peak (eqb-true (m .source) source e) ∙ counts)
       go false e = same-value m _ (rw e)
 
-  pub none-crossed : (ms : List Monitor) (count : ℕ) → originateCrossings source amount ms count ≡ count
-  unfolding originateCrossings
-  none-crossed [] count = refl
-  none-crossed (m ∷ ms) count = rw (not-crossed m) (none-crossed ms count)
+  pub none-crossed : (ms : List Monitor) → crossed source amount ms ≡ []
+  unfolding crossed
+  none-crossed [] = refl
+  none-crossed (m ∷ ms) = rw (not-crossed m) (none-crossed ms)

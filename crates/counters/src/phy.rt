@@ -4,6 +4,7 @@ use crate::counts::add_wrapping;
 use crate::counts::originate;
 use crate::sources::peak;
 use crate::sources::within;
+use model::Effect;
 use model::Monitor;
 use model::Phy;
 ghost use mathlib.Core.Path.{_≡_};
@@ -95,12 +96,12 @@ fn add_error(source: u32, amount: u32, errors: [u32; 4]) -> [u32; 4]
 }
 
 // An event report, on the phy that it names.
-pub fn event_on(source: u32, amount: u32, before: Phy) -> Phy
+pub fn event_on(source: u32, amount: u32, before: Phy) -> Effect
     ensures { λ r. ⌜ r ≡ eventOn source amount before ⌝ }
 {
     let errors = before.errors;
     let monitors = before.monitors;
-    Phy {
+    let after = Phy {
         group: before.group,
         enabled: before.enabled,
         errors: add_error(source, amount, errors),
@@ -108,16 +109,20 @@ pub fn event_on(source: u32, amount: u32, before: Phy) -> Phy
         change0: before.change0,
         expander1: originate_crossings(source, amount, monitors, before.expander1),
         expander2: before.expander2,
+    };
+    Effect {
+        phy: after,
+        change: false,
     }
 }
 
 // A phy that originates Change, left enabled or not.
-pub fn change_on(enabled: bool, before: Phy) -> Phy
+pub fn change_on(enabled: bool, before: Phy) -> Effect
     ensures { λ r. ⌜ r ≡ changeOn enabled before ⌝ }
 {
     let errors = before.errors;
     let monitors = before.monitors;
-    Phy {
+    let after = Phy {
         group: before.group,
         enabled,
         errors,
@@ -125,5 +130,9 @@ pub fn change_on(enabled: bool, before: Phy) -> Phy
         change0: originate(before.change0),
         expander1: before.expander1,
         expander2: before.expander2,
+    };
+    Effect {
+        phy: after,
+        change: true,
     }
 }

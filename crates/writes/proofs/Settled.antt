@@ -3,15 +3,11 @@ use mathlib.Core.Path.{refl}
 use Rattle.model.specs.Settled.{Settled}
 use Rattle.model.proofs.Laws.Settling.{value-settles}
 use Rattle.writes.proofs.configure.configured
-use Rattle.writes.proofs.control.control_changes
 use Rattle.writes.proofs.control.controlled
 use Rattle.writes.proofs.descriptors.first_unsupported
 
 pub configured-settled : Settled configured.Kinds.ps configured.Kinds.r configured.Reads.Pre configured.Reads.Post
 configured-settled = value-settles _ _ _ (λ κs a x y. refl)
-
-pub control-changes-settled : Settled control_changes.Kinds.ps control_changes.Kinds.r control_changes.Reads.Pre control_changes.Reads.Post
-control-changes-settled = value-settles _ _ _ (λ κs a x y. refl)
 
 pub controlled-settled : Settled controlled.Kinds.ps controlled.Kinds.r controlled.Reads.Pre controlled.Reads.Post
 controlled-settled = value-settles _ _ _ (λ κs a x y. refl)

@@ -4,12 +4,14 @@ use crate::descriptors::descriptor_source;
 use crate::descriptors::descriptor_threshold;
 use counters::counts::originate;
 use counters::sources::peak;
+use model::Effect;
 use model::Monitor;
 use model::Phy;
 ghost use mathlib.Core.Path.{_≡_};
 ghost use mathlib.Core.Bool.{cond};
 ghost use mathlib.Core.List.{map};
 ghost use lib.Dec.{ltb, eqb};
+ghost use Rattle.model.specs.Counting.{quiet};
 ghost use Rattle.model.specs.Sources.{peak};
 ghost use Rattle.model.specs.Writes.{setMonitor, setMonitors, setOn};
 ghost use Rattle.model.specs.Writes.{clearMonitor, anyPeak, clearOn, configured};
@@ -113,7 +115,7 @@ fn any_peak(monitors: [Monitor; 4]) -> bool
 
 // "Then, if clearing": the phy once its peaks are cleared. "Expander 2h is originated once" where it has
 // one.
-fn clear_on(before: Phy) -> Phy
+fn clear_on(before: Phy) -> Effect
     ensures { λ r. ⌜ r ≡ clearOn before ⌝ }
 {
     let monitors = before.monitors;
@@ -123,21 +125,28 @@ fn clear_on(before: Phy) -> Phy
     if any_peak(monitors) {
         after.expander2 = originate(before.expander2);
     }
-    after
+    Effect {
+        phy: after,
+        change: false,
+    }
 }
 
 // ".. if clearing", or the phy as it is
-fn clear_if(clear: bool, before: Phy) -> Phy
-    ensures { λ r. ⌜ r ≡ cond clear (clearOn before) before ⌝ }
+fn clear_if(clear: bool, before: Phy) -> Effect
+    ensures { λ r. ⌜ r ≡ cond clear (clearOn before) (quiet before) ⌝ }
 {
     if clear {
-        return clear_on(before);
+        clear_on(before)
+    } else {
+        Effect {
+            phy: before,
+            change: false,
+        }
     }
-    before
 }
 
 // The phy after a 93h with d descriptors: set, and then cleared if clearing.
-pub fn configured(frame: &[u8], d: u8, clear: bool, before: Phy) -> Phy
+pub fn configured(frame: &[u8], d: u8, clear: bool, before: Phy) -> Effect
     ensures { λ r. ⌜ r ≡ configured (now (frame .entry)) d clear before ⌝ }
 {
     clear_if(clear, set_on(frame, d, before))

@@ -5,9 +5,6 @@ use Rattle.model.specs.Counting.{originate}
 use Rattle.counters.proofs.counts.originate.Statement.{statement}
 use Rattle.counters.proofs.counts.originate.Tie as tie
 
-add-result : tie.Need-add-result
-add-result c = search needs
-
 returns : tie.Need-returns
 unfolding originate
 returns c = rw (eq-eqb _ _ (c .if1 .taken))
@@ -17,4 +14,4 @@ unfolding originate
 returns-2 c = rw (ne-eqb _ _ (c .if1 .left))
 
 pub originate-spec : {M : Type 1} → statement M
-originate-spec = tie.close (tie.spec add-result returns returns-2)
+originate-spec = tie.close (tie.spec (search needs) returns returns-2)

@@ -8,29 +8,14 @@ use Rattle.model.proofs.Laws.Tests.{within-true}
 use Rattle.counters.proofs.phy.add_error.Statement.{statement}
 use Rattle.counters.proofs.phy.add_error.Tie as tie
 
-within-requires : tie.Need-within-requires
-within-requires c κs = search needs
-
 in-range : (c : tie.Then1) → let source = c .before .before .args .source in (0x01 ≤ source) × (source ≤ 0x04)
 in-range c = within-true 0x01 0x04 _ (sym (c .before .within .ensures) ∙ c .if1 .taken)
 
 sub-i : tie.Need-sub-i
 sub-i c = omega (arith, in-range c)
 
-cast-i : tie.Need-cast-i
-cast-i c = search needs
-
-mul-add-saturating : tie.Need-mul-add-saturating
-mul-add-saturating c = search needs
-
 array-read-add-saturating : tie.Need-array-read-add-saturating
 array-read-add-saturating c = omega (arith, in-range c)
-
-add-saturating-requires : tie.Need-add-saturating-requires
-add-saturating-requires c κs = search needs
-
-mul-after : tie.Need-mul-after
-mul-after c = search needs
 
 array-write-after : tie.Need-array-write-after
 array-write-after c = omega (arith, in-range (c .before))
@@ -47,13 +32,5 @@ pub add-error-spec : {M : Type 1} → statement M
 add-error-spec =
     tie.close
     (tie.spec
-    within-requires
-    sub-i
-    cast-i
-    mul-add-saturating
-    array-read-add-saturating
-    add-saturating-requires
-    mul-after
-    array-write-after
-    returns
-    returns-2)
+    (search needs) sub-i (search needs) (search needs) array-read-add-saturating (search needs) (search needs) array-write-after
+    returns returns-2)

@@ -5,12 +5,9 @@ use Rattle.model.specs.Counting.{changeOn}
 use Rattle.counters.proofs.phy.change_on.Statement.{statement}
 use Rattle.counters.proofs.phy.change_on.Tie as tie
 
-originate-requires : tie.Need-originate-requires
-originate-requires c κs = search needs
-
 returns : tie.Need-returns
 unfolding changeOn
 returns c = rw (c .originate .ensures)
 
 pub change-on-spec : {M : Type 1} → statement M
-change-on-spec = tie.close (tie.spec originate-requires returns)
+change-on-spec = tie.close (tie.spec (search needs) returns)

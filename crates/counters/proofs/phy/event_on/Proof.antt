@@ -4,20 +4,9 @@ use Rattle.model.specs.Counting.{eventOn}
 use Rattle.counters.proofs.phy.event_on.Statement.{statement}
 use Rattle.counters.proofs.phy.event_on.Tie as tie
 
-add-error-requires : tie.Need-add-error-requires
-add-error-requires c κs = search needs
-
-counted-monitors-requires : tie.Need-counted-monitors-requires
-counted-monitors-requires c κs = search needs
-
-originate-crossings-requires : tie.Need-originate-crossings-requires
-originate-crossings-requires c κs = search needs
-
 returns : tie.Need-returns
 unfolding eventOn
 returns c = rw (c .originate-crossings .ensures, c .before .counted-monitors .ensures, c .before .before .add-error .ensures)
 
 pub event-on-spec : {M : Type 1} → statement M
-event-on-spec =
-    tie.close
-    (tie.spec add-error-requires counted-monitors-requires originate-crossings-requires returns)
+event-on-spec = tie.close (tie.spec (search needs) (search needs) (search needs) returns)

@@ -4,15 +4,6 @@ use mathlib.Core.Path.{sym, _∙_}
 use Rattle.counters.proofs.phy.originate_crossing.Statement.{statement}
 use Rattle.counters.proofs.phy.originate_crossing.Tie as tie
 
-counted-requires : tie.Need-counted-requires
-counted-requires c κs = search needs
-
-crosses-requires : tie.Need-crosses-requires
-crosses-requires c κs = search needs
-
-originate-requires : tie.Need-originate-requires
-originate-requires c κs = search needs
-
 returns : tie.Need-returns
 returns c =
     rw (
@@ -25,5 +16,4 @@ returns-2 : tie.Need-returns-2
 returns-2 c = rw (← c .before .before .counted .ensures, sym (c .before .crosses .ensures) ∙ c .if1 .left)
 
 pub originate-crossing-spec : {M : Type 1} → statement M
-originate-crossing-spec =
-    tie.close (tie.spec counted-requires crosses-requires originate-requires returns returns-2)
+originate-crossing-spec = tie.close (tie.spec (search needs) (search needs) (search needs) returns returns-2)

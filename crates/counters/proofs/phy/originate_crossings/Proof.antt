@@ -1,72 +1,45 @@
 -- `counters::phy::originate_crossings` meets its contract: a counting source crosses nothing, and else the four monitors that it reads
 -- are all there are. Assumes nothing.
 use borrow.Author.Needs.{needs}
-use native.Mathlib.Omega.{arith}
-use mathlib.Core.Path.{sym, _∙_}
 use borrow.Author.Tests.{not-true}
-use Rattle.model.specs.Counting.{originateCrossings}
+use Prim.Native.Nat.{ℕ}
+use native.Mathlib.Omega.{arith}
+use mathlib.Core.Path.{_≡_, sym, _∙_}
+use mathlib.Core.List.{List}
+use lib.ListN.{length, getD}
+use Rattle.model.specs.declared.Monitor.{Monitor}
+use Rattle.model.specs.Counting.{originateIf, counted, crosses, crossed, originateCrossings}
 use Rattle.model.specs.Shelf.{freshMonitor}
-use Rattle.counters.proofs.Four.{four-elements}
+use Rattle.model.proofs.Laws.Four.{four}
+use Rattle.model.proofs.Plain.Counting.{crossings-next}
 use Rattle.counters.proofs.NoCrossing.{none-crossed}
 use Rattle.counters.proofs.phy.originate_crossings.Statement.{statement}
 use Rattle.counters.proofs.phy.originate_crossings.Tie as tie
 
-peak-requires : tie.Need-peak-requires
-peak-requires c κs = search needs
-
 returns : tie.Need-returns
 returns c =
     let a = c .before .before .args in
-    sym (none-crossed (a .source) (a .amount) (sym (c .before .peak .ensures) ∙ not-true _ (c .if1 .taken)) (a .t3) (a .count))
+    rw (none-crossed (a .source) (a .amount) (sym (c .before .peak .ensures) ∙ not-true _ (c .if1 .taken)))
 
-array-copy-out-originate-crossing : tie.Need-array-copy-out-originate-crossing
-array-copy-out-originate-crossing c = search needs
+-- the count once monitor i has had its turn, and once all four have: each goes on from what the one before left
+module _ (source amount : ℕ) (ms : List Monitor) where
+  abbrev turn : ℕ → ℕ → ℕ
+  turn i count =
+      let m : Monitor = getD ms i freshMonitor in
+      originateIf (crosses m (counted source amount m .value)) count
 
-originate-crossing-requires : tie.Need-originate-crossing-requires
-originate-crossing-requires c κs = search needs
-
-array-copy-out-originate-crossing-2 : tie.Need-array-copy-out-originate-crossing-2
-array-copy-out-originate-crossing-2 c = search needs
-
-originate-crossing-requires-2 : tie.Need-originate-crossing-requires-2
-originate-crossing-requires-2 c κs = search needs
-
-array-copy-out-originate-crossing-3 : tie.Need-array-copy-out-originate-crossing-3
-array-copy-out-originate-crossing-3 c = search needs
-
-originate-crossing-requires-3 : tie.Need-originate-crossing-requires-3
-originate-crossing-requires-3 c κs = search needs
-
-array-copy-out-originate-crossing-4 : tie.Need-array-copy-out-originate-crossing-4
-array-copy-out-originate-crossing-4 c = search needs
-
-originate-crossing-requires-4 : tie.Need-originate-crossing-requires-4
-originate-crossing-requires-4 c κs = search needs
+  turns : (count : ℕ) {p q r s : ℕ} → length ms ≡ 4 → p ≡ turn 0 count → q ≡ turn 1 p → r ≡ turn 2 q → s ≡ turn 3 r
+      → s ≡ originateCrossings source amount ms count
+  unfolding crossed
+  turns count h e0 e1 e2 e3 =
+      four freshMonitor (λ xs. originateCrossings source amount xs count) ms h (simp crossings-next (cc))
 
 returns-2 : tie.Need-returns-2
-unfolding originateCrossings
-returns-2 c =
-    let monitors = c .before .before .before .before .before .before .before .before .before .before .args .t3 in
-    rw (
-      four-elements freshMonitor monitors (omega arith),
-      c .originate-crossing4 .ensures,
-      c .before .before .originate-crossing3 .ensures,
-      c .before .before .before .before .originate-crossing2 .ensures,
-      c .before .before .before .before .before .before .originate-crossing .ensures,
-    )
+returns-2 c = search (turns, arith)
 
 pub originate-crossings-spec : {M : Type 1} → statement M
 originate-crossings-spec =
     tie.close
     (tie.spec
-    peak-requires
-    returns
-    array-copy-out-originate-crossing
-    originate-crossing-requires
-    array-copy-out-originate-crossing-2
-    originate-crossing-requires-2
-    array-copy-out-originate-crossing-3
-    originate-crossing-requires-3
-    array-copy-out-originate-crossing-4
-    originate-crossing-requires-4
-    returns-2)
+    (search needs) returns (search needs) (search needs) (search needs) (search needs) (search needs) (search needs) (search needs)
+    (search needs) returns-2)

@@ -6,12 +6,6 @@ use mathlib.Core.Path.{sym, _∙_}
 use Rattle.counters.proofs.phy.value_after.Statement.{statement}
 use Rattle.counters.proofs.phy.value_after.Tie as tie
 
-peak-requires : tie.Need-peak-requires
-peak-requires c κs = search needs
-
-add-wrapping-requires : tie.Need-add-wrapping-requires
-add-wrapping-requires c κs = search needs
-
 returns : tie.Need-returns
 returns c = rw (sym (c .before .before .peak .ensures) ∙ not-true _ (c .before .if1 .taken), c .add-wrapping .ensures)
 
@@ -22,5 +16,4 @@ returns-3 : tie.Need-returns-3
 returns-3 c = rw (sym (c .before .before .peak .ensures) ∙ not-false _ (c .before .if1 .left)) (omega arith)
 
 pub value-after-spec : {M : Type 1} → statement M
-value-after-spec =
-    tie.close (tie.spec peak-requires add-wrapping-requires returns returns-2 returns-3)
+value-after-spec = tie.close (tie.spec (search needs) (search needs) returns returns-2 returns-3)

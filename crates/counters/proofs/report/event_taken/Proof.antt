@@ -17,16 +17,10 @@ returns c = rw (not-true (c .before .args .there) (c .if1 .taken))
 there : (c : tie.Else1) → c .before .args .there ≡ true
 there c = not-false (c .before .args .there) (c .if1 .left)
 
-supported-requires : tie.Need-supported-requires
-supported-requires c κs = search needs
-
 returns-2 : tie.Need-returns-2
 unfolding eventTaken
 returns-2 c =
     rw (there (c .before .before), ← c .before .supported .ensures, c .if2 .taken)
-
-amount-too-large-requires : tie.Need-amount-too-large-requires
-amount-too-large-requires c κs = search needs
 
 -- past the first two tests the third is left
 passed : (c : tie.After-amount-too-large)
@@ -48,6 +42,4 @@ returns-4 : tie.Need-returns-4
 returns-4 c = rw (passed (c .before), c .if3 .left)
 
 pub event-taken-spec : {M : Type 1} → statement M
-event-taken-spec =
-    tie.close
-    (tie.spec returns supported-requires returns-2 amount-too-large-requires returns-3 returns-4)
+event-taken-spec = tie.close (tie.spec returns (search needs) returns-2 (search needs) returns-3 returns-4)

@@ -4,12 +4,9 @@ use Rattle.model.specs.Sources.{peak}
 use Rattle.counters.proofs.sources.peak.Statement.{statement}
 use Rattle.counters.proofs.sources.peak.Tie as tie
 
-within-requires : tie.Need-within-requires
-within-requires c κs = search needs
-
 returns : tie.Need-returns
 unfolding peak
 returns c = c .within .ensures
 
 pub peak-spec : {M : Type 1} → statement M
-peak-spec = tie.close (tie.spec within-requires returns)
+peak-spec = tie.close (tie.spec (search needs) returns)

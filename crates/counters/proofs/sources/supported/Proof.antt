@@ -4,15 +4,9 @@ use Rattle.model.specs.Sources.{supported}
 use Rattle.counters.proofs.sources.supported.Statement.{statement}
 use Rattle.counters.proofs.sources.supported.Tie as tie
 
-counting-requires : tie.Need-counting-requires
-counting-requires c κs = search needs
-
-peak-requires : tie.Need-peak-requires
-peak-requires c κs = search needs
-
 returns : tie.Need-returns
 unfolding supported
 returns c = rw (c .before .counting .ensures, c .peak .ensures)
 
 pub supported-spec : {M : Type 1} → statement M
-supported-spec = tie.close (tie.spec counting-requires peak-requires returns)
+supported-spec = tie.close (tie.spec (search needs) (search needs) returns)

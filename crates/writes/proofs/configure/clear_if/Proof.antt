@@ -3,9 +3,6 @@ use borrow.Author.Needs.{needs}
 use Rattle.writes.proofs.configure.clear_if.Statement.{statement}
 use Rattle.writes.proofs.configure.clear_if.Tie as tie
 
-clear-on-requires : tie.Need-clear-on-requires
-clear-on-requires c κs = search needs
-
 returns : tie.Need-returns
 returns c = rw (c .before .if1 .taken) (c .clear-on .ensures)
 
@@ -13,4 +10,4 @@ returns-2 : tie.Need-returns-2
 returns-2 c = rw (c .if1 .left)
 
 pub clear-if-spec : {M : Type 1} → statement M
-clear-if-spec = tie.close (tie.spec clear-on-requires returns returns-2)
+clear-if-spec = tie.close (tie.spec (search needs) returns returns-2)

@@ -6,9 +6,6 @@ use Rattle.model.specs.Writes.{clearMonitor}
 use Rattle.writes.proofs.configure.clear_monitor.Statement.{statement}
 use Rattle.writes.proofs.configure.clear_monitor.Tie as tie
 
-on-peak-requires : tie.Need-on-peak-requires
-on-peak-requires c κs = search needs
-
 returns : tie.Need-returns
 unfolding clearMonitor
 returns c = rw (sym (c .before .on-peak .ensures) ∙ not-true _ (c .if1 .taken))
@@ -18,4 +15,4 @@ unfolding clearMonitor
 returns-2 c = rw (sym (c .before .on-peak .ensures) ∙ not-false _ (c .if1 .left))
 
 pub clear-monitor-spec : {M : Type 1} → statement M
-clear-monitor-spec = tie.close (tie.spec on-peak-requires returns returns-2)
+clear-monitor-spec = tie.close (tie.spec (search needs) returns returns-2)

@@ -6,15 +6,6 @@ use Rattle.model.specs.Writes.{clearOn}
 use Rattle.writes.proofs.configure.clear_on.Statement.{statement}
 use Rattle.writes.proofs.configure.clear_on.Tie as tie
 
-clear-monitors-requires : tie.Need-clear-monitors-requires
-clear-monitors-requires c κs = search needs
-
-any-peak-requires : tie.Need-any-peak-requires
-any-peak-requires c κs = search needs
-
-originate-requires : tie.Need-originate-requires
-originate-requires c κs = search needs
-
 returns : tie.Need-returns
 unfolding clearOn
 returns c =
@@ -30,6 +21,4 @@ unfolding clearOn
 returns-2 c = simp (c .before .before .clear-monitors .ensures, sym (c .before .any-peak .ensures) ∙ c .if1 .left)
 
 pub clear-on-spec : {M : Type 1} → statement M
-clear-on-spec =
-    tie.close
-    (tie.spec clear-monitors-requires any-peak-requires originate-requires returns returns-2)
+clear-on-spec = tie.close (tie.spec (search needs) (search needs) (search needs) returns returns-2)

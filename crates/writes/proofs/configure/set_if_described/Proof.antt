@@ -5,9 +5,6 @@ use native.Mathlib.Omega.{arith}
 use Rattle.writes.proofs.configure.set_if_described.Statement.{statement}
 use Rattle.writes.proofs.configure.set_if_described.Tie as tie
 
-set-monitor-requires : tie.Need-set-monitor-requires
-set-monitor-requires c κs = search needs
-
 returns : tie.Need-returns
 returns c =
     let a = c .before .before .before .args in
@@ -19,4 +16,4 @@ returns-2 c =
     rw (le-ltb (a .i) (a .d) (omega arith))
 
 pub set-if-described-spec : {M : Type 1} → statement M
-set-if-described-spec = tie.close (tie.spec set-monitor-requires returns returns-2)
+set-if-described-spec = tie.close (tie.spec (search needs) returns returns-2)

@@ -4,15 +4,6 @@ use Rattle.model.specs.Writes.{setMonitor}
 use Rattle.writes.proofs.configure.set_monitor.Statement.{statement}
 use Rattle.writes.proofs.configure.set_monitor.Tie as tie
 
-descriptor-source-requires : tie.Need-descriptor-source-requires
-descriptor-source-requires c κs = search needs
-
-kept-value-requires : tie.Need-kept-value-requires
-kept-value-requires c κs = search needs
-
-descriptor-threshold-requires : tie.Need-descriptor-threshold-requires
-descriptor-threshold-requires c κs = search needs
-
 returns : tie.Need-returns
 unfolding setMonitor
 returns c =
@@ -23,6 +14,4 @@ returns c =
     )
 
 pub set-monitor-spec : {M : Type 1} → statement M
-set-monitor-spec =
-    tie.close
-    (tie.spec descriptor-source-requires kept-value-requires descriptor-threshold-requires returns)
+set-monitor-spec = tie.close (tie.spec (search needs) (search needs) (search needs) returns)

@@ -4,12 +4,9 @@ use Rattle.model.specs.Writes.{setOn}
 use Rattle.writes.proofs.configure.set_on.Statement.{statement}
 use Rattle.writes.proofs.configure.set_on.Tie as tie
 
-set-monitors-requires : tie.Need-set-monitors-requires
-set-monitors-requires c κs = search needs
-
 returns : tie.Need-returns
 unfolding setOn
 returns c = rw (c .set-monitors .ensures)
 
 pub set-on-spec : {M : Type 1} → statement M
-set-on-spec = tie.close (tie.spec set-monitors-requires returns)
+set-on-spec = tie.close (tie.spec (search needs) returns)

@@ -2,23 +2,23 @@
 -- operation's own record, and at every other with the one before. Assumes nothing.
 use borrow.Author.Needs.{needs}
 use borrow.Author.Tests.{ne-eqb}
+use Prim.Native.Nat.{ℕ}
+use mathlib.Core.Path.{_≡_}
+use mathlib.Core.Bool.{true}
+use Rattle.model.specs.declared.Effect.{Effect}
+use Rattle.model.specs.declared.Phy.{Phy}
 use Rattle.model.specs.Counting.{changeOn}
 use Rattle.model.specs.Writes.{controlled}
 use Rattle.writes.proofs.control.controlled.Statement.{statement}
 use Rattle.writes.proofs.control.controlled.Tie as tie
 
-change-on-requires : tie.Need-change-on-requires
-change-on-requires c κs = search needs
-
-change-on-requires-2 : tie.Need-change-on-requires-2
-change-on-requires-2 c κs = search needs
-
-without-errors-requires : tie.Need-without-errors-requires
-without-errors-requires c κs = search needs
+-- A link reset. It is found by `search`, so that one which does not say that it originated Change is refused at the claim.
+reset : (operation : ℕ) (x : Phy) {after : Effect} → operation ≡ 0x01 → after ≡ changeOn true x → after ≡ controlled operation x
+unfolding controlled
+reset operation x is-reset is-changed = rw (is-reset, is-changed)
 
 returns : tie.Need-returns
-unfolding controlled
-returns c = rw (c .before .match .keys1, c .change-on .ensures)
+returns c = search reset
 
 returns-2 : tie.Need-returns-2
 unfolding controlled changeOn
@@ -34,17 +34,9 @@ returns-4 c = rw (c .before .match .keys3, c .without-errors .ensures)
 
 returns-5 : tie.Need-returns-5
 unfolding controlled
-returns-5 c = simp (ne-eqb _ _ (c .match .rest .0 .0 .1), ne-eqb _ _ (c .match .rest .0 .1), ne-eqb _ _ (c .match .rest .1))
+returns-5 c =
+    let rest = c .match .rest in
+    simp (ne-eqb _ _ (rest .0 .0 .1), ne-eqb _ _ (rest .0 .1), ne-eqb _ _ (rest .1))
 
 pub controlled-spec : {M : Type 1} → statement M
-controlled-spec =
-    tie.close
-    (tie.spec
-    change-on-requires
-    change-on-requires-2
-    without-errors-requires
-    returns
-    returns-2
-    returns-3
-    returns-4
-    returns-5)
+controlled-spec = tie.close (tie.spec (search needs) (search needs) (search needs) returns returns-2 returns-3 returns-4 returns-5)

@@ -4,12 +4,9 @@ use Rattle.model.specs.Request.{allowed}
 use Rattle.writes.proofs.descriptors.allowed.Statement.{statement}
 use Rattle.writes.proofs.descriptors.allowed.Tie as tie
 
-supported-requires : tie.Need-supported-requires
-supported-requires c κs = search needs
-
 returns : tie.Need-returns
 unfolding allowed
 returns c = rw (c .supported .ensures)
 
 pub allowed-spec : {M : Type 1} → statement M
-allowed-spec = tie.close (tie.spec supported-requires returns)
+allowed-spec = tie.close (tie.spec (search needs) returns)

@@ -38,18 +38,6 @@ abbrev μ-loop : tie.MeasureT-loop
 loop-holds : tie.Need-loop-holds Inv-loop μ-loop
 loop-holds c = (omega arith, rw sub-zero)
 
-descriptor-source-requires : tie.Need-descriptor-source-requires Inv-loop μ-loop
-descriptor-source-requires c κs = search needs
-
-allowed-requires : tie.Need-allowed-requires Inv-loop μ-loop
-allowed-requires c κs = search needs
-
-add-i : tie.Need-add-i Inv-loop μ-loop
-add-i c = search needs
-
-loop-less : tie.Need-loop-less Inv-loop μ-loop
-loop-less c = search needs
-
 -- what is left before a turn, by whether the descriptor of that turn is allowed
 judged : (c : tie.After-allowed Inv-loop μ-loop)
     → let a = c .before .before .before .before .before .args in
@@ -72,14 +60,4 @@ returns-2 c = sym (rw (not-true (c .before .allowed .result) (c .if2 .taken)) at
 pub first-unsupported-spec : {M : Type 1} → statement M
 first-unsupported-spec =
     tie.close
-    (tie.spec
-    Inv-loop
-    μ-loop
-    loop-holds
-    descriptor-source-requires
-    allowed-requires
-    add-i
-    loop-less
-    loop-again
-    returns
-    returns-2)
+    (tie.spec Inv-loop μ-loop loop-holds (search needs) (search needs) (search needs) (search needs) loop-again returns returns-2)
