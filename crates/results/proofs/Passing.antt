@@ -11,7 +11,9 @@ use Rattle.model.specs.declared.FunctionResult.the-variants.{InvalidRequestFram
 use Rattle.model.specs.declared.FunctionResult.the-variants.{InvalidExpanderChangeCount, PhyDoesNotExist}
 use Rattle.model.specs.declared.FunctionResult.the-variants.{UnknownPhyOperation, PhyVacant}
 use Rattle.model.specs.declared.FunctionResult.the-variants.{UnknownPhyEventSource, SmpZoneViolation}
-use Rattle.model.specs.Results.{accepted, checkWrite}
+use Rattle.model.specs.declared.Grounds.{Grounds}
+use Rattle.model.specs.Results.{accepted, countRight, checkWrite}
+use Rattle.model.specs.Tests.{check}
 use Rattle.model.proofs.FunctionResult.{the-type}
 
 -- the variants but `Accepted`, by their places in the enum
@@ -35,24 +37,30 @@ not-accepted UnknownPhyEventSource e = refl
 not-accepted SmpZoneViolation e = refl
 
 -- A write that fails before its contents fails so, whatever they are; one that passes so far comes to what they come to.
-module _ (count there reached : Bool) (contents : FunctionResult) where
-  pub write-fails : {result : FunctionResult} → result ≡ checkWrite count there reached Accepted → Other result
-      → result ≡ checkWrite count there reached contents
-  write-fails {result} e other = e ∙ go count there reached (ap accepted (sym e) ∙ not-accepted result other)
+module _ (on : Grounds) (expected : ℕ) (contents : FunctionResult) where
+  -- the three checks before the contents, and what stands behind them
+  abbrev behind : Bool → Bool → Bool → FunctionResult → FunctionResult
+  behind count there reached rest =
+      check count InvalidExpanderChangeCount (check there PhyDoesNotExist (check reached SmpZoneViolation rest))
+
+  pub write-fails : {result : FunctionResult} → result ≡ checkWrite on expected Accepted → Other result
+      → result ≡ checkWrite on expected contents
+  write-fails {result} e other =
+      e ∙ go (countRight on expected) (on .there) (on .reached) (ap accepted (sym e) ∙ not-accepted result other)
     where
-      go : (count there reached : Bool) → accepted (checkWrite count there reached Accepted) ≡ false
-          → checkWrite count there reached Accepted ≡ checkWrite count there reached contents
+      go : (count there reached : Bool) → accepted (behind count there reached Accepted) ≡ false
+          → behind count there reached Accepted ≡ behind count there reached contents
       go true true true h = absurd (true≢false h)
       go true true false h = refl
       go true false reached h = refl
       go false there reached h = refl
 
-  pub write-passes : {result next : FunctionResult} → result ≡ checkWrite count there reached Accepted → result ≡ Accepted
-      → next ≡ contents → next ≡ checkWrite count there reached contents
-  write-passes e a n = n ∙ go count there reached (ap accepted (sym e ∙ a))
+  pub write-passes : {result next : FunctionResult} → result ≡ checkWrite on expected Accepted → result ≡ Accepted
+      → next ≡ contents → next ≡ checkWrite on expected contents
+  write-passes e a n = n ∙ go (countRight on expected) (on .there) (on .reached) (ap accepted (sym e ∙ a))
     where
-      go : (count there reached : Bool) → accepted (checkWrite count there reached Accepted) ≡ true
-          → contents ≡ checkWrite count there reached contents
+      go : (count there reached : Bool) → accepted (behind count there reached Accepted) ≡ true
+          → contents ≡ behind count there reached contents
       go true true true h = refl
       go true true false h = absurd (false≢true h)
       go true false reached h = absurd (false≢true h)

@@ -1,7 +1,8 @@
-// "Function results .. In this order, first failure decides": what a request that was read comes to, from
-// pieces of the shelf: the present change count, whether the request's phy exists, and whether the
-// source reaches it.
+// "Function results .. In this order, first failure decides": what a request that was read comes to, on the grounds that
+// may decide it (`model::Grounds`): the present change count, whether the request's phy exists, and whether the source
+// reaches it.
 use model::FunctionResult;
+use model::Grounds;
 use writes::descriptors::first_unsupported;
 ghost use mathlib.Core.Path.{_≡_};
 ghost use Rattle.model.specs.Results.{countRight, knownOperation, checkPhy, checkRead, checkWrite};
@@ -9,40 +10,40 @@ ghost use Rattle.model.specs.Results.{checkKind, checkOperation, checkDescripto
 ghost use Rattle.model.specs.declared.FunctionResult.the-variants.{Accepted};
 
 // Not 04h: "91h and 93h, when bytes 4 and 5 are neither 0000h nor the present count"
-fn count_right(changes: u16, expected: u32) -> bool
-    ensures { λ r. ⌜ r ≡ countRight changes expected ⌝ }
+fn count_right(on: Grounds, expected: u32) -> bool
+    ensures { λ r. ⌜ r ≡ countRight on expected ⌝ }
 {
-    (expected == 0x0000) | (expected == changes as u32)
+    (expected == 0x0000) | (expected == on.changes as u32)
 }
 
 // "10h PHY DOES NOT EXIST", then "Not reached", with its result
-fn check_phy(there: bool, reached: bool, unreached: FunctionResult) -> FunctionResult
-    ensures { λ r. ⌜ r ≡ checkPhy there reached unreached Accepted ⌝ }
+fn check_phy(on: Grounds, unreached: FunctionResult) -> FunctionResult
+    ensures { λ r. ⌜ r ≡ checkPhy on unreached Accepted ⌝ }
 {
-    if !there {
+    if !on.there {
         return FunctionResult::PhyDoesNotExist;
     }
-    if !reached {
+    if !on.reached {
         return unreached;
     }
     FunctionResult::Accepted
 }
 
 // "16h PHY VACANT for 11h and 14h"
-pub fn check_read(there: bool, reached: bool) -> FunctionResult
-    ensures { λ r. ⌜ r ≡ checkRead there reached ⌝ }
+pub fn check_read(on: Grounds) -> FunctionResult
+    ensures { λ r. ⌜ r ≡ checkRead on ⌝ }
 {
-    check_phy(there, reached, FunctionResult::PhyVacant)
+    check_phy(on, FunctionResult::PhyVacant)
 }
 
 // A write up to its contents: 04h, 10h, and "20h SMP ZONE VIOLATION for 91h and 93h"
-fn check_write(changes: u16, expected: u32, there: bool, reached: bool) -> FunctionResult
-    ensures { λ r. ⌜ r ≡ checkWrite (countRight changes expected) there reached Accepted ⌝ }
+fn check_write(on: Grounds, expected: u32) -> FunctionResult
+    ensures { λ r. ⌜ r ≡ checkWrite on expected Accepted ⌝ }
 {
-    if !count_right(changes, expected) {
+    if !count_right(on, expected) {
         return FunctionResult::InvalidExpanderChangeCount;
     }
-    check_phy(there, reached, FunctionResult::SmpZoneViolation)
+    check_phy(on, FunctionResult::SmpZoneViolation)
 }
 
 // "02h SMP FUNCTION FAILED for a broadcast type above 0Fh (06h)"
@@ -87,16 +88,10 @@ fn check_descriptors(frame: &[u8], d: u8) -> FunctionResult
 }
 
 // A 91h. Its contents are judged only where all before has passed.
-pub fn check_control(
-    changes: u16,
-    expected: u32,
-    there: bool,
-    reached: bool,
-    operation: u8,
-) -> FunctionResult
-    ensures { λ r. ⌜ r ≡ checkWrite (countRight changes expected) there reached (checkOperation operation) ⌝ }
+pub fn check_control(on: Grounds, expected: u32, operation: u8) -> FunctionResult
+    ensures { λ r. ⌜ r ≡ checkWrite on expected (checkOperation operation) ⌝ }
 {
-    let so_far = check_write(changes, expected, there, reached);
+    let so_far = check_write(on, expected);
     let FunctionResult::Accepted = so_far else {
         return so_far;
     };
@@ -104,17 +99,10 @@ pub fn check_control(
 }
 
 // A 93h with d descriptors. They are judged only where all before has passed.
-pub fn check_configure(
-    changes: u16,
-    expected: u32,
-    there: bool,
-    reached: bool,
-    frame: &[u8],
-    d: u8,
-) -> FunctionResult
-    ensures { λ r. ⌜ r ≡ checkWrite (countRight changes expected) there reached (checkDescriptors (now (frame .entry)) d) ⌝ }
+pub fn check_configure(on: Grounds, expected: u32, frame: &[u8], d: u8) -> FunctionResult
+    ensures { λ r. ⌜ r ≡ checkWrite on expected (checkDescriptors (now (frame .entry)) d) ⌝ }
 {
-    let all_before = check_write(changes, expected, there, reached);
+    let all_before = check_write(on, expected);
     let FunctionResult::Accepted = all_before else {
         return all_before;
     };

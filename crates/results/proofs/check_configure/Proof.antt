@@ -1,34 +1,22 @@
 -- `results::check_configure` meets its contract: what stands before the contents, and then they. Assumes nothing.
 use borrow.Author.Needs.{needs}
-use Rattle.model.specs.Results.{countRight, checkDescriptors}
+use Rattle.model.specs.Results.{checkDescriptors}
 use Rattle.results.proofs.Passing.{write-fails, write-passes}
 use Rattle.results.proofs.check_configure.Statement.{statement}
 use Rattle.results.proofs.check_configure.Tie as tie
 
-check-write-requires : tie.Need-check-write-requires
-check-write-requires c κs = search needs
-
-enum-told : tie.Need-enum-told
-enum-told c = search needs
-
 returns : tie.Need-returns
 returns c =
-    let write = c .before in
-    let a = write .before .before .args in
-    write-fails (countRight (a .changes) (a .expected)) (a .there) (a .reached) (checkDescriptors (a .frame .now) (a .d))
-    (write .check-write .ensures) (c .match .keys2)
-
-check-descriptors-requires : tie.Need-check-descriptors-requires
-check-descriptors-requires c κs = search needs
+    let a = c .before .before .before .args in
+    write-fails (a .on) (a .expected) (checkDescriptors (a .frame .now) (a .d)) (c .before .check-write .ensures) (c .match .keys2)
 
 returns-2 : tie.Need-returns-2
 returns-2 c =
     let write = c .before .before .before in
     let a = write .before .before .args in
-    write-passes (countRight (a .changes) (a .expected)) (a .there) (a .reached) (checkDescriptors (a .frame .now) (a .d))
-    (write .check-write .ensures) (c .before .enum-told .given .1) (c .check-descriptors .ensures)
+    write-passes (a .on) (a .expected) (checkDescriptors (a .frame .now) (a .d)) (write .check-write .ensures)
+    (c .before .enum-told .given .1)
+    (c .check-descriptors .ensures)
 
 pub check-configure-spec : {M : Type 1} → statement M
-check-configure-spec =
-    tie.close
-    (tie.spec check-write-requires enum-told returns check-descriptors-requires returns-2)
+check-configure-spec = tie.close (tie.spec (search needs) (search needs) returns (search needs) returns-2)

@@ -8,9 +8,6 @@ use Rattle.results.proofs.check_descriptors.Tie as tie
 returns : tie.Need-returns
 returns c = rw (lt-leb (c .before .before .args .d) 4 (omega arith))
 
-first-unsupported-requires : tie.Need-first-unsupported-requires
-first-unsupported-requires c κs = search needs
-
 returns-2 : tie.Need-returns-2
 returns-2 c =
     let first = c .before in
@@ -32,5 +29,4 @@ returns-3 c =
     )
 
 pub check-descriptors-spec : {M : Type 1} → statement M
-check-descriptors-spec =
-    tie.close (tie.spec returns first-unsupported-requires returns-2 returns-3)
+check-descriptors-spec = tie.close (tie.spec returns (search needs) returns-2 returns-3)

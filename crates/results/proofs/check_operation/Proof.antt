@@ -5,9 +5,6 @@ use borrow.Author.Tests.{not-true, not-false}
 use Rattle.results.proofs.check_operation.Statement.{statement}
 use Rattle.results.proofs.check_operation.Tie as tie
 
-known-operation-requires : tie.Need-known-operation-requires
-known-operation-requires c κs = search needs
-
 returns : tie.Need-returns
 returns c = rw (sym (c .before .known-operation .ensures) ∙ not-true _ (c .if1 .taken))
 
@@ -15,4 +12,4 @@ returns-2 : tie.Need-returns-2
 returns-2 c = rw (sym (c .before .known-operation .ensures) ∙ not-false _ (c .if1 .left))
 
 pub check-operation-spec : {M : Type 1} → statement M
-check-operation-spec = tie.close (tie.spec known-operation-requires returns returns-2)
+check-operation-spec = tie.close (tie.spec (search needs) returns returns-2)

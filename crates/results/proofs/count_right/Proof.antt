@@ -1,4 +1,5 @@
 -- `results::count_right` meets its contract: `oneOf` of the two counts is two comparisons. Assumes nothing.
+use borrow.Author.Needs.{needs}
 use mathlib.Core.Bool.{or-false}
 use Rattle.model.specs.Results.{countRight}
 use Rattle.results.proofs.count_right.Statement.{statement}
@@ -9,4 +10,4 @@ unfolding countRight
 returns c = simp or-false
 
 pub count-right-spec : {M : Type 1} → statement M
-count-right-spec = tie.close (tie.spec returns)
+count-right-spec = tie.close (tie.spec (search needs) returns)
