@@ -7,7 +7,7 @@ use lib.ListN.{length, take, drop, length-append}
 use lib.Seq.{sets-eq, length-sets, length-take-le, take-length, drop-at}
 use Rattle.model.specs.declared.Shelf.{Shelf}
 use Rattle.model.specs.Reply.{Broadcast, broadcasts, broadcastBytes, broadcastHead, reportBroadcast}
-use Rattle.model.specs.Server.{over}
+use Rattle.model.specs.Server.{leastBuffer, over}
 use Rattle.model.proofs.Demands.Frames.{broadcasts-few}
 use Rattle.model.proofs.Laws.Places.{sets-append}
 use Rattle.model.proofs.Plain.Reply.{broadcast-bytes-length}
@@ -21,25 +21,22 @@ descriptors-append [] ys = refl
 descriptors-append (x ∷ xs) ys = rw (descriptors-append xs ys)
 
 -- the descriptors of xs from n on, and then those of ys from there on
-listed-append : (out : List ℕ) (n : ℕ) (xs ys : List Broadcast)
-    → listedFrom (listedFrom out n xs) (n + length xs) ys ≡ listedFrom out n (xs ++ ys)
-listed-append out n xs ys =
-    let next : 8 + 8 * (n + length xs) ≡ 8 + 8 * n + length (broadcastBytes xs) = omega (arith, broadcast-bytes-length xs) in
-    rw (next, sets-append, descriptors-append)
-
-pub lists-append : (out : List ℕ) (n : ℕ) {out′ out″ : List ℕ} {n′ n″ : ℕ} (xs ys : List Broadcast)
+pub lists-append : {out out′ out″ : List ℕ} {n n′ n″ : ℕ} {xs ys : List Broadcast}
     → Lists out n xs n′ out′ → Lists out′ n′ ys n″ out″ → Lists out n (xs ++ ys) n″ out″
-lists-append out n xs ys (e, b) (e′, b′) =
-    (simp length-append (omega arith), rw (b′, b, e) (listed-append out n xs ys))
+lists-append {n} {xs} first then =
+    let next : 8 + 8 * (n + length xs) ≡ 8 + 8 * n + length (broadcastBytes xs) = omega (arith, broadcast-bytes-length xs) in
+    record {
+      many = simp length-append (omega arith);
+      holds = rw (then .holds, first .holds, first .many, next, sets-append, descriptors-append);
+    }
 
-pub lists-none : (out : List ℕ) (n : ℕ) → Lists out n [] n out
+pub lists-none : {out : List ℕ} {n : ℕ} → Lists out n [] n out
 unfolding broadcastBytes
-lists-none out n = (omega arith, refl)
+lists-none = record { many = omega arith; holds = refl }
 
 -- listing keeps the buffer's length
-pub lists-length : (out : List ℕ) (n : ℕ) {after : List ℕ} {number : ℕ} (bs : List Broadcast) → Lists out n bs number after
-    → length after ≡ length out
-lists-length out n bs (e, b) = ap length b ∙ length-sets out (8 + 8 * n) (broadcastBytes bs)
+pub lists-length : {out after : List ℕ} {n number : ℕ} {bs : List Broadcast} → Lists out n bs number after → length after ≡ length out
+lists-length {out} {n} {bs} l = ap length (l .holds) ∙ length-sets out (8 + 8 * n) (broadcastBytes bs)
 
 -- the head laid over the front of the list makes the frame, and the old rest stands behind it
 headed : (out head : List ℕ) (bs : List Broadcast) → length head ≡ 8 → 8 + 8 * length bs ≤ length out
@@ -54,17 +51,17 @@ headed out head bs eight room =
     rw (take-length, length-append, eight, behind, append-assoc)
 
 -- So the response has been sent. Of the head is known what was copied, and that it is a definition's.
-pub report-sent : (s : Shelf) (source kind : ℕ) (out : List ℕ) {head listed after : List ℕ} {n size : ℕ} → 1028 ≤ length out
+pub report-sent : (s : Shelf) (source kind : ℕ) (out : List ℕ) {head listed after : List ℕ} {n size : ℕ} → leastBuffer ≤ length out
     → Lists out 0 (broadcasts s source kind) n listed → head ≡ broadcastHead (s .changes) kind n
     → after ≡ take (length head) head ++ drop (length head) listed → size ≡ 8 + 8 * n
     → Sent out (reportBroadcast s source kind) size after
 unfolding reportBroadcast
-report-sent s source kind out {head} {n} room (e, list) made copied size =
+report-sent s source kind out {head} {n} room lists made copied size =
     let bs = broadcasts s source kind in
-    let number : n ≡ length bs = omega (arith, e) in
+    let number : n ≡ length bs = omega arith in
     let known = rw number at made in
     let few = broadcasts-few s source kind in
     rw (has-room out (reportBroadcast s source kind) room) (
       simp length-append (omega (arith, broadcast-bytes-length bs)),
-      rw (copied, list, headed out head bs (ap length known) (omega (arith, few)), known),
+      rw (copied, lists .holds, headed out head bs (ap length known) (omega (arith, few)), known),
     )

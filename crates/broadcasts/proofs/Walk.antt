@@ -7,10 +7,11 @@ use mathlib.Core.Path.{_≡_, _∙_}
 use mathlib.Core.List.{List, _++_}
 use lib.ListN.{length, getD}
 use Rattle.model.specs.declared.Phy.{Phy}
-use Rattle.model.specs.Reply.{Broadcast, deviceListed, seenListed}
+use Rattle.model.specs.Reply.{Broadcast, seenListed}
+use Rattle.model.specs.Server.{leastBuffer}
 use Rattle.model.specs.Shelf.{noPhy}
 use Rattle.model.specs.Tests.{joinBelow}
-use Rattle.model.proofs.Demands.Frames.{device-few, seen-few}
+use Rattle.model.proofs.Demands.Frames.{seen-few}
 use Rattle.model.proofs.Laws.Join.{join-few}
 use Rattle.broadcasts.specs.Listed.{Lists}
 use Rattle.broadcasts.proofs.Listing.{lists-none, lists-append, lists-length}
@@ -26,35 +27,30 @@ pub record Walked (phys : List Phy) (row kind n₀ : ℕ) (out₀ : List ℕ) (n
 
 pub walk-begin : {phys : List Phy} {row kind n₀ : ℕ} {out₀ : List ℕ} {number : ℕ} → Walked phys row kind n₀ out₀ number 0 n₀ out₀
 unfolding joinBelow
-walk-begin {n₀} {out₀} = record { passed = omega arith; lists = lists-none out₀ n₀ }
+walk-begin = record { passed = omega arith; lists = lists-none }
 
 module _ {phys : List Phy} {row kind n₀ : ℕ} {out₀ : List ℕ} {number p n : ℕ} {out : List ℕ}
     (walked : Walked phys row kind n₀ out₀ number p n out) where
-  abbrev soFar : List Broadcast
-  soFar = joinBelow p (seen phys row kind)
-
   pub walk-turn : {n′ : ℕ} {out′ : List ℕ} → p < number → Lists out n (seen phys row kind p) n′ out′
       → Walked phys row kind n₀ out₀ number (p + 1) n′ out′
   unfolding joinBelow
   walk-turn below one = record {
     passed = omega arith;
-    lists = rw (add-one p) (lists-append out₀ n₀ soFar (seen phys row kind p) (walked .lists) one);
+    lists = rw (add-one p) (lists-append (walked .lists) one);
   }
 
-  -- before the loop the count under FFh, one at most, is listed
-  module _ (first : List ℕ) (expander3 ses0 : ℕ) (device : Lists first 0 (deviceListed kind expander3 ses0) n₀ out₀) where
+  -- before the loop the counts under FFh are listed
+  module _ {first : List ℕ} {device : List Broadcast} (begun : Lists first 0 device n₀ out₀) where
     -- listing keeps the buffer's length
     pub walk-length : length out ≡ length first
-    walk-length =
-        lists-length out₀ n₀ soFar (walked .lists) ∙ lists-length first 0 (deviceListed kind expander3 ses0) device
+    walk-length = lists-length (walked .lists) ∙ lists-length begun
 
     -- there is room for what belongs to one phy more
-    pub walk-room : 1028 ≤ length first → p < 24 → (1028 ≤ length out) × (n ≤ 47)
-    walk-room room below =
-        let two = join-few p 2 (seen phys row kind) (λ q. seen-few row kind q (getD phys q noPhy)) in
-        (omega (arith, walk-length), omega (arith, device-few kind expander3 ses0, device .0, walked .lists .0, two))
+    pub walk-room : length device ≤ 1 → leastBuffer ≤ length first → p < 24 → (leastBuffer ≤ length out) × (n ≤ 47)
+    walk-room one room below =
+        omega (arith, walk-length, join-few p 2 (seen phys row kind) (λ q. seen-few row kind q (getD phys q noPhy)))
 
-    pub walk-end : number ≤ p → Lists first 0 (deviceListed kind expander3 ses0 ++ joinBelow number (seen phys row kind)) n out
+    pub walk-end : number ≤ p → Lists first 0 (device ++ joinBelow number (seen phys row kind)) n out
     walk-end all =
         let done : number ≡ p = omega (arith, walked .passed) in
-        rw done (lists-append first 0 (deviceListed kind expander3 ses0) soFar device (walked .lists))
+        rw done (lists-append begun (walked .lists))

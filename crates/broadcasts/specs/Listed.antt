@@ -11,5 +11,6 @@ abbrev pub listedFrom : List ℕ → ℕ → List Broadcast → List ℕ
 listedFrom out n bs = sets out (8 + 8 * n) (broadcastBytes bs)
 
 -- These broadcasts are listed from descriptor n on: how many descriptors there are then, and what the buffer then holds.
-abbrev pub Lists : List ℕ → ℕ → List Broadcast → ℕ → List ℕ → Type 0
-Lists out n bs number after = (number ≡ n + length bs) × (after ≡ listedFrom out n bs)
+pub record Lists (out : List ℕ) (n : ℕ) (bs : List Broadcast) (number : ℕ) (after : List ℕ) : Type 0 where
+  pub many : number ≡ n + length bs
+  pub holds : after ≡ listedFrom out n bs

@@ -6,6 +6,7 @@
 // and for no more descriptors than there can be, which are 49: one under FFh and two for each of 24 phys.
 // (`kind` is the broadcast type; `type` is a word of the language.)
 use gate::zone::smp_row_reaches;
+use model::LEAST_BUFFER;
 use model::Phy;
 use replies::fixed::broadcast_descriptor;
 use replies::wire::two;
@@ -18,6 +19,7 @@ ghost use mathlib.Core.Path.{_≡_};
 ghost use Prim.Native.Nat.{_≤_};
 ghost use lib.ListN.{length};
 ghost use Rattle.model.specs.Reply.{listed, deviceListed, phyListed, seenListed, broadcasts, broadcastHead, reportBroadcast};
+ghost use Rattle.model.specs.Server.{leastBuffer};
 ghost use Rattle.words.specs.Words.{shelfOf};
 ghost use Rattle.broadcasts.specs.Listed.{Lists};
 ghost use Rattle.replies.specs.Sent.{Sent};
@@ -25,7 +27,7 @@ ghost use Rattle.replies.specs.Sent.{Sent};
 // One count of the list, as descriptor n, unless it is 0: "Every non-zero count". Gives how many
 // descriptors there are now.
 fn list(out: &mut [u8], n: u8, phy: u8, reason: u8, count: u16) -> u8
-    requires { ⌜ 1028 ≤ length (now out) ⌝ }
+    requires { ⌜ leastBuffer ≤ length (now out) ⌝ }
     requires { ⌜ n ≤ 48 ⌝ }
     ensures { λ r. ⌜ Lists (now (out .entry)) n (listed phy reason count) r (now (out .exit)) ⌝ }
 {
@@ -39,7 +41,7 @@ fn list(out: &mut [u8], n: u8, phy: u8, reason: u8, count: u16) -> u8
 
 // The count under FFh: "two broadcast counts under FFh: Expander 3h (reduced functionality) and SES 0h".
 fn list_device(out: &mut [u8], kind: u8, expander3: u16, ses0: u16) -> u8
-    requires { ⌜ 1028 ≤ length (now out) ⌝ }
+    requires { ⌜ leastBuffer ≤ length (now out) ⌝ }
     ensures { λ r. ⌜ Lists (now (out .entry)) 0 (deviceListed kind expander3 ses0) r (now (out .exit)) ⌝ }
 {
     match kind {
@@ -51,7 +53,7 @@ fn list_device(out: &mut [u8], kind: u8, expander3: u16, ses0: u16) -> u8
 
 // The counts of one phy: "Change reason 0h, Expander 1h and 2h", from descriptor n on.
 fn list_phy(out: &mut [u8], n: u8, kind: u8, phy: u8, numbers: Phy) -> u8
-    requires { ⌜ 1028 ≤ length (now out) ⌝ }
+    requires { ⌜ leastBuffer ≤ length (now out) ⌝ }
     requires { ⌜ n ≤ 47 ⌝ }
     ensures { λ r. ⌜ Lists (now (out .entry)) n (phyListed kind phy numbers) r (now (out .exit)) ⌝ }
 {
@@ -67,7 +69,7 @@ fn list_phy(out: &mut [u8], n: u8, kind: u8, phy: u8, numbers: Phy) -> u8
 
 // .. if the source sees the phy: "A source sees FFh and the phys it reaches."
 fn list_seen(out: &mut [u8], n: u8, row: u32, kind: u8, phy: u8, numbers: Phy) -> u8
-    requires { ⌜ 1028 ≤ length (now out) ⌝ }
+    requires { ⌜ leastBuffer ≤ length (now out) ⌝ }
     requires { ⌜ n ≤ 47 ⌝ }
     ensures { λ r. ⌜ Lists (now (out .entry)) n (seenListed row kind phy numbers) r (now (out .exit)) ⌝ }
 {
@@ -79,7 +81,7 @@ fn list_seen(out: &mut [u8], n: u8, row: u32, kind: u8, phy: u8, numbers: Phy) -
 
 // The whole list: "FFh first, then phys rising, then reason rising." Gives how many there are.
 fn list_all(words: &[u32; WORDS], source: u32, kind: u8, out: &mut [u8]) -> u8
-    requires { ⌜ 1028 ≤ length (now out) ⌝ }
+    requires { ⌜ leastBuffer ≤ length (now out) ⌝ }
     ensures { λ r. ⌜ Lists (now (out .entry)) 0 (broadcasts (shelfOf (now (words .entry))) source kind) r (now (out .exit)) ⌝ }
 {
     let row = row(words, source);
@@ -100,12 +102,11 @@ fn broadcast_head(changes: u16, kind: u8, n: u8) -> [u8; 8]
     [0x41, 0x06, 0x00, 1 + 2 * n, count[0], count[1], kind, n]
 }
 
-// The response to 06h, in the lent buffer. Gives its length. Into a buffer shorter than 1,028 bytes nothing
-// is sent.
+// The response to 06h, in the lent buffer. Gives its length. Into a buffer that is too short nothing is sent.
 pub fn report_broadcast(words: &[u32; WORDS], source: u32, kind: u8, out: &mut [u8]) -> usize
     ensures { λ r. ⌜ Sent (now (out .entry)) (reportBroadcast (shelfOf (now (words .entry))) source kind) r (now (out .exit)) ⌝ }
 {
-    if out.len() < 1028 {
+    if out.len() < LEAST_BUFFER {
         return 0;
     }
     let n = list_all(words, source, kind, out);

@@ -5,11 +5,11 @@ use mathlib.Core.Bool.{cond}
 use mathlib.Core.List.{List, []}
 use lib.Dec.{ltb}
 use lib.ListN.{length}
-use Rattle.model.specs.Server.{over}
+use Rattle.model.specs.Server.{leastBuffer, over}
 
--- What is sent of these bytes: all, or, into a buffer shorter than 1,028 bytes, nothing.
+-- What is sent of these bytes: all, or, into a buffer that is too short (H5), nothing.
 abbrev pub ifRoom : List ℕ → List ℕ → List ℕ
-ifRoom out bytes = cond (ltb (length out) 1028) [] bytes
+ifRoom out bytes = cond (ltb (length out) leastBuffer) [] bytes
 
 -- These bytes have been sent, if there was room: how many were, and the buffer afterwards, which holds what was sent and behind it its
 -- old rest.

@@ -1,13 +1,17 @@
 // The responses of a fixed size, and the descriptors of the lists.
 use crate::lay::head;
 use crate::lay::lay;
-use crate::wire::four;
-use crate::wire::two;
+use crate::lay::lay_byte;
+use crate::lay::lay_four;
+use crate::lay::lay_two;
 use model::Monitor;
 use model::Phy;
 ghost use mathlib.Core.Path.{_≡_};
+ghost use Prim.Native.Nat.{_+_, _≤_};
+ghost use lib.ListN.{length};
 ghost use Rattle.model.specs.Reply.{failed, reportGeneral, reportManufacturer, reportPhyErrorLog};
 ghost use Rattle.model.specs.Reply.{eventDescriptor, reportPhyEvent, broadcastDescriptor};
+ghost use Rattle.replies.specs.Lays.{Lays};
 
 // "A failed response is 41h, the function, the result, 00h." With result 00h it is a write's response.
 pub fn failed(function: u8, result: u8) -> [u8; 4]
@@ -21,9 +25,10 @@ pub fn report_general(changes: u16, number: u8, identifier: [u8; 8]) -> [u8; 36]
     ensures { λ r. ⌜ r ≡ reportGeneral changes number identifier ⌝ }
 {
     let mut frame = [0u8; 36];
-    head(&mut frame, 0x00, 0x08, changes);
-    lay(&mut frame, 9, &[number]);
-    lay(&mut frame, 12, &identifier);
+    let bytes = &mut frame[..];
+    head(bytes, 0x00, 0x08, changes);
+    lay_byte(bytes, 9, number);
+    lay(bytes, 12, &identifier);
     frame
 }
 
@@ -33,10 +38,11 @@ pub fn report_manufacturer(changes: u16) -> [u8; 60]
     ensures { λ r. ⌜ r ≡ reportManufacturer changes ⌝ }
 {
     let mut frame = [0u8; 60];
-    head(&mut frame, 0x01, 0x0E, changes);
-    lay(&mut frame, 12, b"RAILYARD");
-    lay(&mut frame, 20, b"PORTAL SHELF    ");
-    lay(&mut frame, 36, b"0001");
+    let bytes = &mut frame[..];
+    head(bytes, 0x01, 0x0E, changes);
+    lay(bytes, 12, b"RAILYARD");
+    lay(bytes, 20, b"PORTAL SHELF    ");
+    lay(bytes, 36, b"0001");
     frame
 }
 
@@ -47,12 +53,13 @@ pub fn report_phy_error_log(changes: u16, phy: u8, numbers: Phy) -> [u8; 28]
 {
     let errors = numbers.errors;
     let mut frame = [0u8; 28];
-    head(&mut frame, 0x11, 0x06, changes);
-    lay(&mut frame, 9, &[phy]);
-    lay(&mut frame, 12, &four(errors[0]));
-    lay(&mut frame, 16, &four(errors[1]));
-    lay(&mut frame, 20, &four(errors[2]));
-    lay(&mut frame, 24, &four(errors[3]));
+    let bytes = &mut frame[..];
+    head(bytes, 0x11, 0x06, changes);
+    lay_byte(bytes, 9, phy);
+    lay_four(bytes, 12, errors[0]);
+    lay_four(bytes, 16, errors[1]);
+    lay_four(bytes, 20, errors[2]);
+    lay_four(bytes, 24, errors[3]);
     frame
 }
 
@@ -61,10 +68,19 @@ fn event_descriptor(monitor: Monitor) -> [u8; 12]
     ensures { λ r. ⌜ r ≡ eventDescriptor monitor ⌝ }
 {
     let mut descriptor = [0u8; 12];
-    lay(&mut descriptor, 3, &[monitor.source]);
-    lay(&mut descriptor, 4, &four(monitor.value));
-    lay(&mut descriptor, 8, &four(monitor.threshold));
+    let bytes = &mut descriptor[..];
+    lay_byte(bytes, 3, monitor.source);
+    lay_four(bytes, 4, monitor.value);
+    lay_four(bytes, 8, monitor.threshold);
     descriptor
+}
+
+// .. written over a frame, from a place on
+fn lay_event(frame: &mut [u8], at: usize, monitor: Monitor)
+    requires { ⌜ at + 12 ≤ length (now frame) ⌝ }
+    ensures { λ _. ⌜ Lays (now (frame .entry)) at (eventDescriptor monitor) (now (frame .exit)) ⌝ }
+{
+    lay(frame, at, &event_descriptor(monitor));
 }
 
 // 14h: "Response 64 bytes, length 0Fh: 9 phy, 15 the number 4, then from 16 four descriptors of 12 bytes"
@@ -73,13 +89,14 @@ pub fn report_phy_event(changes: u16, phy: u8, numbers: Phy) -> [u8; 64]
 {
     let monitors = numbers.monitors;
     let mut frame = [0u8; 64];
-    head(&mut frame, 0x14, 0x0F, changes);
-    lay(&mut frame, 9, &[phy]);
-    lay(&mut frame, 15, &[4]);
-    lay(&mut frame, 16, &event_descriptor(monitors[0]));
-    lay(&mut frame, 28, &event_descriptor(monitors[1]));
-    lay(&mut frame, 40, &event_descriptor(monitors[2]));
-    lay(&mut frame, 52, &event_descriptor(monitors[3]));
+    let bytes = &mut frame[..];
+    head(bytes, 0x14, 0x0F, changes);
+    lay_byte(bytes, 9, phy);
+    lay_byte(bytes, 15, 4);
+    lay_event(bytes, 16, monitors[0]);
+    lay_event(bytes, 28, monitors[1]);
+    lay_event(bytes, 40, monitors[2]);
+    lay_event(bytes, 52, monitors[3]);
     frame
 }
 
@@ -88,8 +105,9 @@ pub fn broadcast_descriptor(phy: u8, reason: u8, count: u16) -> [u8; 8]
     ensures { λ r. ⌜ r ≡ broadcastDescriptor (record { phy = phy; reason = reason; count = count }) ⌝ }
 {
     let mut descriptor = [0u8; 8];
-    lay(&mut descriptor, 0, &[phy]);
-    lay(&mut descriptor, 2, &[reason]);
-    lay(&mut descriptor, 4, &two(count));
+    let bytes = &mut descriptor[..];
+    lay_byte(bytes, 0, phy);
+    lay_byte(bytes, 2, reason);
+    lay_two(bytes, 4, count);
     descriptor
 }

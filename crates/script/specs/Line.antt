@@ -5,6 +5,7 @@ use mathlib.Core.List.{List}
 use lib.Dec.{leb, eqb}
 use lib.ListN.{length}
 use Rattle.model.specs.Bytes.{byte, text}
+use Rattle.model.specs.Server.{leastBuffer}
 use Rattle.model.specs.Tests.{given}
 use Rattle.script.specs.declared.line.Line.{Line}
 use Rattle.script.specs.declared.line.Line.the-variants.{Heading, Request, Reach, Report, Idle}
@@ -21,14 +22,15 @@ lineKind line =
     (given (eqb (byte line 2) 0x72) Reach
     Report)))
 
--- the source group, and the length of the lent buffer, which is 1,028 where it is left out, as the last two numbers
+-- the source group, and the length of the lent buffer, which is the least that H5 allows where it is left out, as the last
+-- two numbers
 unfoldable pub readAsked : List ℕ → Reading → Reading
 readAsked line from =
     let source = read line from (text "from #") in
     let told = read line source (text ", buffer of #:") in
     let untold = read line source (text ":") in
     cond (told .fits) told
-    (reading (untold .at) (untold .fits) (untold .whole) (untold .first) (untold .third) 1028)
+    (reading (untold .at) (untold .fits) (untold .whole) (untold .first) (untold .third) leastBuffer)
 
 -- one byte of a frame, as the last number
 unfoldable pub readHex : List ℕ → Reading → Reading

@@ -3,6 +3,7 @@ use crate::text::Reading;
 use crate::text::read;
 use crate::text::unread;
 use gate::bytes::byte_at;
+use model::LEAST_BUFFER;
 ghost use mathlib.Core.Path.{_≡_};
 ghost use Rattle.script.specs.Line.{lineKind, readAsked, readHex};
 
@@ -35,7 +36,7 @@ pub fn line_kind(line: &[u8]) -> Line
 }
 
 // Reads `from 8:` or `from 1, buffer of 1027:`: the source group and the length of the lent buffer, which
-// is 1,028 where it is left out, as the last two numbers.
+// is the least that H5 allows where it is left out, as the last two numbers.
 pub fn read_asked(line: &[u8], from: Reading) -> Reading
     ensures { λ r. ⌜ r ≡ readAsked (now (line .entry)) from ⌝ }
 {
@@ -46,7 +47,7 @@ pub fn read_asked(line: &[u8], from: Reading) -> Reading
     }
     let mut untold = read(line, source, b":");
     untold.second = untold.third;
-    untold.third = 1028;
+    untold.third = LEAST_BUFFER as u32;
     untold
 }
 

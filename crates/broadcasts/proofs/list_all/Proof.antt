@@ -4,6 +4,7 @@ use borrow.Author.Needs.{needs}
 use Prim.Native.Nat.{_-_}
 use native.Mathlib.Omega.{arith}
 use Rattle.model.specs.Reply.{broadcasts}
+use Rattle.model.proofs.Demands.Frames.{device-few}
 use Rattle.words.specs.Words.{shelfOf}
 use Rattle.broadcasts.proofs.Walk.{Walked, walk-begin, walk-turn, walk-length, walk-room, walk-end}
 use Rattle.broadcasts.proofs.list_all.Statement.{statement}
@@ -16,49 +17,14 @@ Inv-loop words source kind out₀ row number n₀ p₀ out n p =
 abbrev μ-loop : tie.MeasureT-loop
 μ-loop words source kind out₀ row number n₀ p₀ out n p = 24 - p
 
-row-requires : tie.Need-row-requires Inv-loop μ-loop
-row-requires c κs = search needs
-
-element-copy-out-phy-number : tie.Need-element-copy-out-phy-number Inv-loop μ-loop
-element-copy-out-phy-number c = search needs
-
-phy-number-requires : tie.Need-phy-number-requires Inv-loop μ-loop
-phy-number-requires c κs = search needs
-
-element-copy-out-low16 : tie.Need-element-copy-out-low16 Inv-loop μ-loop
-element-copy-out-low16 c = search needs
-
-low16-requires : tie.Need-low16-requires Inv-loop μ-loop
-low16-requires c κs = search needs
-
-element-copy-out-low16-2 : tie.Need-element-copy-out-low16-2 Inv-loop μ-loop
-element-copy-out-low16-2 c = search needs
-
-low16-requires-2 : tie.Need-low16-requires-2 Inv-loop μ-loop
-low16-requires-2 c κs = search needs
-
-list-device-requires : tie.Need-list-device-requires Inv-loop μ-loop
-list-device-requires c κs = search needs
-
 loop-holds : tie.Need-loop-holds Inv-loop μ-loop
 loop-holds c = walk-begin
-
-cast-list-seen : tie.Need-cast-list-seen Inv-loop μ-loop
-cast-list-seen c = search needs
-
-phy-at-requires : tie.Need-phy-at-requires Inv-loop μ-loop
-phy-at-requires c κs = search needs
 
 list-seen-requires : tie.Need-list-seen-requires Inv-loop μ-loop
 list-seen-requires c κs =
     let turn = c .before .before .before in
-    walk-room (turn .loop .inv) _ _ _ (turn .before .before .before .list-device .ensures) (omega arith) (omega arith)
-
-add-p : tie.Need-add-p Inv-loop μ-loop
-add-p c = search needs
-
-loop-less : tie.Need-loop-less Inv-loop μ-loop
-loop-less c = search needs
+    walk-room (turn .loop .inv) (turn .before .before .before .list-device .ensures) (device-few _ _ _)
+    (omega arith) (omega arith)
 
 loop-again : tie.Need-loop-again Inv-loop μ-loop
 loop-again c =
@@ -68,7 +34,7 @@ loop-again c =
     (rw (listed .before .phy-at .ensures) at (listed .list-seen .ensures))
 
 same-length : tie.Need-same-length Inv-loop μ-loop
-same-length c = walk-length (c .before .loop .inv) _ _ _ (c .before .before .before .before .list-device .ensures)
+same-length c = walk-length (c .before .loop .inv) (c .before .before .before .before .list-device .ensures)
 
 returns : tie.Need-returns Inv-loop μ-loop
 unfolding broadcasts shelfOf
@@ -83,28 +49,10 @@ returns c =
       counted .phy-number .ensures,
       counted .before .before .row .ensures,
     ) at
-    (walk-end (c .before .loop .inv) _ _ _ (first .list-device .ensures) (omega arith))
+    (walk-end (c .before .loop .inv) (first .list-device .ensures) (omega arith))
 
 pub list-all-spec : {M : Type 1} → statement M
 list-all-spec =
-    tie.close
-    (tie.spec
-    Inv-loop
-    μ-loop
-    row-requires
-    element-copy-out-phy-number
-    phy-number-requires
-    element-copy-out-low16
-    low16-requires
-    element-copy-out-low16-2
-    low16-requires-2
-    list-device-requires
-    loop-holds
-    cast-list-seen
-    phy-at-requires
-    list-seen-requires
-    add-p
-    loop-less
-    loop-again
-    same-length
-    returns)
+    tie.close (tie.spec Inv-loop μ-loop (search needs) (search needs) (search needs) (search needs) (search needs)
+    (search needs) (search needs) (search needs) loop-holds (search needs) (search needs) list-seen-requires
+    (search needs) (search needs) loop-again same-length returns)

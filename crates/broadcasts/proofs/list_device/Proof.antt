@@ -7,21 +7,9 @@ use Rattle.broadcasts.proofs.Listing.{lists-none}
 use Rattle.broadcasts.proofs.list_device.Statement.{statement}
 use Rattle.broadcasts.proofs.list_device.Tie as tie
 
-list-requires : tie.Need-list-requires
-list-requires c κs = search needs
-
-list-requires-2 : tie.Need-list-requires-2
-list-requires-2 c κs = search needs
-
-same-length : tie.Need-same-length
-same-length c = search needs
-
 returns : tie.Need-returns
 unfolding deviceListed
 returns c = rw (c .before .before .before .before .match .keys1) (c .before .before .list .ensures)
-
-same-length-2 : tie.Need-same-length-2
-same-length-2 c = search needs
 
 returns-2 : tie.Need-returns-2
 unfolding deviceListed
@@ -31,9 +19,8 @@ returns-3 : tie.Need-returns-3
 unfolding deviceListed
 returns-3 c =
     let a = c .before .before .args in
-    rw (ne-eqb (a .kind) 0x3 (omega arith), ne-eqb (a .kind) 0x4 (omega arith)) (lists-none (a .out .now) 0)
+    rw (ne-eqb (a .kind) 0x3 (omega arith), ne-eqb (a .kind) 0x4 (omega arith)) lists-none
 
 pub list-device-spec : {M : Type 1} → statement M
 list-device-spec =
-    tie.close
-    (tie.spec list-requires list-requires-2 same-length returns same-length-2 returns-2 returns-3)
+    tie.close (tie.spec (search needs) (search needs) (search needs) returns (search needs) returns-2 returns-3)

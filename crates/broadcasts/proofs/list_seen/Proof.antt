@@ -8,21 +8,12 @@ use Rattle.broadcasts.proofs.Listing.{lists-none}
 use Rattle.broadcasts.proofs.list_seen.Statement.{statement}
 use Rattle.broadcasts.proofs.list_seen.Tie as tie
 
-smp-row-reaches-requires : tie.Need-smp-row-reaches-requires
-smp-row-reaches-requires c κs = search needs
-
 returns : tie.Need-returns
 returns c =
     let a = c .before .before .before .args in
     let unseen : rowReaches (a .row) (a .numbers .group) ≡ false =
     sym (c .before .smp-row-reaches .ensures) ∙ not-true _ (c .if1 .taken) in
-    rw unseen (lists-none (a .out .now) (a .n))
-
-list-phy-requires : tie.Need-list-phy-requires
-list-phy-requires c κs = search needs
-
-same-length : tie.Need-same-length
-same-length c = search needs
+    rw unseen lists-none
 
 returns-2 : tie.Need-returns-2
 returns-2 c =
@@ -33,5 +24,4 @@ returns-2 c =
     rw seen (c .before .before .list-phy .ensures)
 
 pub list-seen-spec : {M : Type 1} → statement M
-list-seen-spec =
-    tie.close (tie.spec smp-row-reaches-requires returns list-phy-requires same-length returns-2)
+list-seen-spec = tie.close (tie.spec (search needs) returns (search needs) (search needs) returns-2)

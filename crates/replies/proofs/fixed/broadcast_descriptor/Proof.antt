@@ -1,62 +1,16 @@
--- `replies::fixed::broadcast_descriptor` meets its contract: each number is laid over what stands before. Assumes nothing.
+-- `replies::fixed::broadcast_descriptor` meets its contract: each number is laid over what stands before (see `Laid`). Assumes nothing.
 use borrow.Author.Needs.{needs}
+use Rattle.replies.proofs.Laid.{then}
 use Rattle.replies.proofs.fixed.broadcast_descriptor.Statement.{statement}
 use Rattle.replies.proofs.fixed.broadcast_descriptor.Tie as tie
 
-slice-aggregate-lay : tie.Need-slice-aggregate-lay
-slice-aggregate-lay c = search needs
-
-slice-aggregate-lay-2 : tie.Need-slice-aggregate-lay-2
-slice-aggregate-lay-2 c = search needs
-
-lay-requires : tie.Need-lay-requires
-lay-requires c κs = search needs
-
-slice-aggregate-lay-3 : tie.Need-slice-aggregate-lay-3
-slice-aggregate-lay-3 c = search needs
-
-slice-aggregate-lay-4 : tie.Need-slice-aggregate-lay-4
-slice-aggregate-lay-4 c = search needs
-
-lay-requires-2 : tie.Need-lay-requires-2
-lay-requires-2 c κs = search needs
-
-slice-aggregate-lay-5 : tie.Need-slice-aggregate-lay-5
-slice-aggregate-lay-5 c = search needs
-
-two-requires : tie.Need-two-requires
-two-requires c κs = search needs
-
-slice-aggregate-lay-6 : tie.Need-slice-aggregate-lay-6
-slice-aggregate-lay-6 c = search needs
-
-lay-requires-3 : tie.Need-lay-requires-3
-lay-requires-3 c κs = search needs
-
 returns : tie.Need-returns
 returns c =
-    let after-lay3 = c .before in
-    let after-lay2 = after-lay3 .before .before .before .before .before in
-    let after-lay = after-lay2 .before .before .before .before in
-    rw (
-      after-lay3 .lay3 .ensures,
-      after-lay3 .before .before .two .ensures,
-      after-lay2 .lay2 .ensures,
-      after-lay .lay .ensures,
-    )
+    let count = c .before in
+    let reason = count .before .before .before in
+    let phy = reason .before .before .before .before in
+    then (count .lay-two .ensures) (then (reason .lay-byte2 .ensures) (phy .lay-byte .ensures .is))
 
 pub broadcast-descriptor-spec : {M : Type 1} → statement M
 broadcast-descriptor-spec =
-    tie.close
-    (tie.spec
-    slice-aggregate-lay
-    slice-aggregate-lay-2
-    lay-requires
-    slice-aggregate-lay-3
-    slice-aggregate-lay-4
-    lay-requires-2
-    slice-aggregate-lay-5
-    two-requires
-    slice-aggregate-lay-6
-    lay-requires-3
-    returns)
+    tie.close (tie.spec (search needs) (search needs) (search needs) (search needs) returns)

@@ -1,67 +1,16 @@
--- `replies::fixed::event_descriptor` meets its contract: each number is laid over what stands before. Assumes nothing.
+-- `replies::fixed::event_descriptor` meets its contract: each number is laid over what stands before (see `Laid`). Assumes nothing.
 use borrow.Author.Needs.{needs}
+use Rattle.replies.proofs.Laid.{then}
 use Rattle.replies.proofs.fixed.event_descriptor.Statement.{statement}
 use Rattle.replies.proofs.fixed.event_descriptor.Tie as tie
 
-slice-aggregate-lay : tie.Need-slice-aggregate-lay
-slice-aggregate-lay c = search needs
-
-slice-aggregate-lay-2 : tie.Need-slice-aggregate-lay-2
-slice-aggregate-lay-2 c = search needs
-
-lay-requires : tie.Need-lay-requires
-lay-requires c κs = search needs
-
-slice-aggregate-lay-3 : tie.Need-slice-aggregate-lay-3
-slice-aggregate-lay-3 c = search needs
-
-four-requires : tie.Need-four-requires
-four-requires c κs = search needs
-
-slice-aggregate-lay-4 : tie.Need-slice-aggregate-lay-4
-slice-aggregate-lay-4 c = search needs
-
-lay-requires-2 : tie.Need-lay-requires-2
-lay-requires-2 c κs = search needs
-
-slice-aggregate-lay-5 : tie.Need-slice-aggregate-lay-5
-slice-aggregate-lay-5 c = search needs
-
-four-requires-2 : tie.Need-four-requires-2
-four-requires-2 c κs = search needs
-
-slice-aggregate-lay-6 : tie.Need-slice-aggregate-lay-6
-slice-aggregate-lay-6 c = search needs
-
-lay-requires-3 : tie.Need-lay-requires-3
-lay-requires-3 c κs = search needs
-
 returns : tie.Need-returns
 returns c =
-    let after-lay3 = c .before in
-    let after-lay2 = after-lay3 .before .before .before .before .before in
-    let after-lay = after-lay2 .before .before .before .before .before in
-    rw (
-      after-lay3 .lay3 .ensures,
-      after-lay3 .before .before .four2 .ensures,
-      after-lay2 .lay2 .ensures,
-      after-lay2 .before .before .four .ensures,
-      after-lay .lay .ensures,
-    )
+    let threshold = c .before in
+    let value = threshold .before .before .before in
+    let source = value .before .before .before .before in
+    then (threshold .lay-four2 .ensures) (then (value .lay-four .ensures) (source .lay-byte .ensures .is))
 
 pub event-descriptor-spec : {M : Type 1} → statement M
 event-descriptor-spec =
-    tie.close
-    (tie.spec
-    slice-aggregate-lay
-    slice-aggregate-lay-2
-    lay-requires
-    slice-aggregate-lay-3
-    four-requires
-    slice-aggregate-lay-4
-    lay-requires-2
-    slice-aggregate-lay-5
-    four-requires-2
-    slice-aggregate-lay-6
-    lay-requires-3
-    returns)
+    tie.close (tie.spec (search needs) (search needs) (search needs) (search needs) returns)

@@ -1,55 +1,18 @@
--- `replies::fixed::report_general` meets its contract: each group of bytes is laid over those before. Assumes nothing.
+-- `replies::fixed::report_general` meets its contract: each group of bytes is laid over those before (see `Laid`). Assumes nothing.
 use borrow.Author.Needs.{needs}
 use Rattle.model.specs.Reply.{reportGeneral}
+use Rattle.replies.proofs.Laid.{then}
 use Rattle.replies.proofs.fixed.report_general.Statement.{statement}
 use Rattle.replies.proofs.fixed.report_general.Tie as tie
-
-slice-aggregate-head : tie.Need-slice-aggregate-head
-slice-aggregate-head c = search needs
-
-head-requires : tie.Need-head-requires
-head-requires c κs = search needs
-
-slice-aggregate-lay : tie.Need-slice-aggregate-lay
-slice-aggregate-lay c = search needs
-
-slice-aggregate-lay-2 : tie.Need-slice-aggregate-lay-2
-slice-aggregate-lay-2 c = search needs
-
-lay-requires : tie.Need-lay-requires
-lay-requires c κs = search needs
-
-slice-aggregate-lay-3 : tie.Need-slice-aggregate-lay-3
-slice-aggregate-lay-3 c = search needs
-
-slice-aggregate-lay-4 : tie.Need-slice-aggregate-lay-4
-slice-aggregate-lay-4 c = search needs
-
-lay-requires-2 : tie.Need-lay-requires-2
-lay-requires-2 c κs = search needs
 
 returns : tie.Need-returns
 unfolding reportGeneral
 returns c =
-    let after-lay2 = c .before in
-    let after-lay = after-lay2 .before .before .before .before in
-    let after-head = after-lay .before .before .before .before in
-    rw (
-      after-lay2 .lay2 .ensures,
-      after-lay .lay .ensures,
-      after-head .head .ensures,
-    )
+    let identifier = c .before in
+    let number = identifier .before .before .before .before in
+    let begun = number .before .before .before .before in
+    then (identifier .lay .ensures) (then (number .lay-byte .ensures) (begun .head .ensures))
 
 pub report-general-spec : {M : Type 1} → statement M
 report-general-spec =
-    tie.close
-    (tie.spec
-    slice-aggregate-head
-    head-requires
-    slice-aggregate-lay
-    slice-aggregate-lay-2
-    lay-requires
-    slice-aggregate-lay-3
-    slice-aggregate-lay-4
-    lay-requires-2
-    returns)
+    tie.close (tie.spec (search needs) (search needs) (search needs) (search needs) (search needs) returns)

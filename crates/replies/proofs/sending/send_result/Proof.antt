@@ -8,21 +8,6 @@ use Rattle.replies.proofs.sending.send_result.Tie as tie
 returns : tie.Need-returns
 returns c = none-sent (c .before .before .args .out .now) _ (omega arith)
 
-result-code-requires : tie.Need-result-code-requires
-result-code-requires c κs = search needs
-
-failed-requires : tie.Need-failed-requires
-failed-requires c κs = search needs
-
-slice-aggregate-copy : tie.Need-slice-aggregate-copy
-slice-aggregate-copy c = search needs
-
-copy-requires : tie.Need-copy-requires
-copy-requires c κs = search needs
-
-same-length : tie.Need-same-length
-same-length c = search needs
-
 returns-2 : tie.Need-returns-2
 returns-2 c =
     let copied = c .before .before in
@@ -34,12 +19,4 @@ returns-2 c =
 
 pub send-result-spec : {M : Type 1} → statement M
 send-result-spec =
-    tie.close
-    (tie.spec
-    returns
-    result-code-requires
-    failed-requires
-    slice-aggregate-copy
-    copy-requires
-    same-length
-    returns-2)
+    tie.close (tie.spec returns (search needs) (search needs) (search needs) (search needs) (search needs) returns-2)

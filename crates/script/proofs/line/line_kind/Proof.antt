@@ -11,15 +11,6 @@ use Rattle.script.specs.Text.{unread, read}
 use Rattle.script.proofs.line.line_kind.Statement.{statement}
 use Rattle.script.proofs.line.line_kind.Tie as tie
 
-unread-requires : tie.Need-unread-requires
-unread-requires c κs = search needs
-
-slice-aggregate-read : tie.Need-slice-aggregate-read
-slice-aggregate-read c = search needs
-
-read-requires : tie.Need-read-requires
-read-requires c κs = search needs
-
 -- what is read is the definition's
 remark : (c : tie.After-read)
     → c .read .result ≡ read (c .before .before .before .before .args .line .now) unread (text "  - ")
@@ -29,17 +20,11 @@ returns : tie.Need-returns
 unfolding lineKind
 returns c = rw (← remark (c .before .before), c .if1 .taken)
 
-byte-at-requires : tie.Need-byte-at-requires
-byte-at-requires c κs = search needs
-
 returns-2 : tie.Need-returns-2
 unfolding lineKind
 returns-2 c =
     let first = c .before .before in
     rw (← remark (first .before .before), first .if1 .left, ← c .before .byte-at .ensures, ne-eqb _ _ (c .if2 .taken))
-
-byte-at-requires-2 : tie.Need-byte-at-requires-2
-byte-at-requires-2 c κs = search needs
 
 -- past the first two tests the letter is left
 letter : (c : tie.After-byte-at2)
@@ -68,15 +53,4 @@ returns-5 c = rw (letter (c .before), ne-eqb _ _ (c .match .rest .0 .1), ne-eqb 
 
 pub line-kind-spec : {M : Type 1} → statement M
 line-kind-spec =
-    tie.close
-    (tie.spec
-    unread-requires
-    slice-aggregate-read
-    read-requires
-    returns
-    byte-at-requires
-    returns-2
-    byte-at-requires-2
-    returns-3
-    returns-4
-    returns-5)
+    tie.close (tie.spec (search needs) (search needs) (search needs) returns (search needs) returns-2 (search needs) returns-3 returns-4 returns-5)

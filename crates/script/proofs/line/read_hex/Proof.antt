@@ -4,15 +4,9 @@ use Rattle.script.specs.Line.{readHex}
 use Rattle.script.proofs.line.read_hex.Statement.{statement}
 use Rattle.script.proofs.line.read_hex.Tie as tie
 
-slice-aggregate-read : tie.Need-slice-aggregate-read
-slice-aggregate-read c = search needs
-
-read-requires : tie.Need-read-requires
-read-requires c κs = search needs
-
 returns : tie.Need-returns
 unfolding readHex
 returns c = rw (← c .before .before .read .ensures)
 
 pub read-hex-spec : {M : Type 1} → statement M
-read-hex-spec = tie.close (tie.spec slice-aggregate-read read-requires returns)
+read-hex-spec = tie.close (tie.spec (search needs) (search needs) returns)

@@ -6,30 +6,6 @@ use Rattle.script.specs.Report.{makeReport}
 use Rattle.script.proofs.report.make_report.Statement.{statement}
 use Rattle.script.proofs.report.make_report.Tie as tie
 
-enum-known-report : tie.Need-enum-known-report
-enum-known-report c = search needs
-
-event-requires : tie.Need-event-requires
-event-requires c κs = search needs
-
-enum-known-report-2 : tie.Need-enum-known-report-2
-enum-known-report-2 c = search needs
-
-link-change-requires : tie.Need-link-change-requires
-link-change-requires c κs = search needs
-
-enum-told : tie.Need-enum-told
-enum-told c = search needs
-
-notice-requires : tie.Need-notice-requires
-notice-requires c κs = search needs
-
-enum-told-2 : tie.Need-enum-told-2
-enum-told-2 c = search needs
-
-notice-requires-2 : tie.Need-notice-requires-2
-notice-requires-2 c κs = search needs
-
 returns : tie.Need-returns
 unfolding makeReport
 returns c = rw (c .before .before .before .report .given .1) (c .event .ensures)
@@ -50,15 +26,5 @@ pub make-report-spec : {M : Type 1} → statement M
 make-report-spec =
     tie.close
     (tie.spec
-    enum-known-report
-    event-requires
-    enum-known-report-2
-    link-change-requires
-    enum-told
-    notice-requires
-    enum-told-2
-    notice-requires-2
-    returns
-    returns-2
-    returns-3
-    returns-4)
+    (search needs) (search needs) (search needs) (search needs) (search needs) (search needs) (search needs) (search needs)
+    returns returns-2 returns-3 returns-4)

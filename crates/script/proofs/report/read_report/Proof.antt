@@ -5,15 +5,6 @@ use Rattle.script.specs.Report.{sesAfter, reducedAfter, linkAfter, repor
 use Rattle.script.proofs.report.read_report.Statement.{statement}
 use Rattle.script.proofs.report.read_report.Tie as tie
 
-read-times-requires : tie.Need-read-times-requires
-read-times-requires c κs = search needs
-
-slice-aggregate-read : tie.Need-slice-aggregate-read
-slice-aggregate-read c = search needs
-
-read-requires : tie.Need-read-requires
-read-requires c κs = search needs
-
 returns : tie.Need-returns
 unfolding reportAfter
 returns c = rw (← c .before .before .before .read-times .ensures, ← c .before .read .ensures, c .if1 .taken)
@@ -40,31 +31,13 @@ past-reduced : (c : tie.Else3)
 unfolding reducedAfter
 past-reduced c = rw (past-link (c .before .before .before), ← c .before .read3 .ensures, c .if3 .left)
 
-slice-aggregate-read-2 : tie.Need-slice-aggregate-read-2
-slice-aggregate-read-2 c = search needs
-
-read-requires-2 : tie.Need-read-requires-2
-read-requires-2 c κs = search needs
-
 returns-2 : tie.Need-returns-2
 unfolding linkAfter
 returns-2 c = rw (past-event (c .before .before .before), ← c .before .read2 .ensures, c .if2 .taken)
 
-slice-aggregate-read-3 : tie.Need-slice-aggregate-read-3
-slice-aggregate-read-3 c = search needs
-
-read-requires-3 : tie.Need-read-requires-3
-read-requires-3 c κs = search needs
-
 returns-3 : tie.Need-returns-3
 unfolding reducedAfter
 returns-3 c = rw (past-link (c .before .before .before), ← c .before .read3 .ensures, c .if3 .taken)
-
-slice-aggregate-read-4 : tie.Need-slice-aggregate-read-4
-slice-aggregate-read-4 c = search needs
-
-read-requires-4 : tie.Need-read-requires-4
-read-requires-4 c κs = search needs
 
 returns-4 : tie.Need-returns-4
 unfolding sesAfter
@@ -78,17 +51,5 @@ pub read-report-spec : {M : Type 1} → statement M
 read-report-spec =
     tie.close
     (tie.spec
-    read-times-requires
-    slice-aggregate-read
-    read-requires
-    returns
-    slice-aggregate-read-2
-    read-requires-2
-    returns-2
-    slice-aggregate-read-3
-    read-requires-3
-    returns-3
-    slice-aggregate-read-4
-    read-requires-4
-    returns-4
-    returns-5)
+    (search needs) (search needs) (search needs) returns (search needs) (search needs) returns-2 (search needs) (search needs)
+    returns-3 (search needs) (search needs) returns-4 returns-5)

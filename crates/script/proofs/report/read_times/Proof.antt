@@ -4,12 +4,6 @@ use Rattle.script.specs.Report.{readTimes}
 use Rattle.script.proofs.report.read_times.Statement.{statement}
 use Rattle.script.proofs.report.read_times.Tie as tie
 
-slice-aggregate-read : tie.Need-slice-aggregate-read
-slice-aggregate-read c = search needs
-
-read-requires : tie.Need-read-requires
-read-requires c κs = search needs
-
 returns : tie.Need-returns
 unfolding readTimes
 returns c = rw (← c .before .read .ensures, c .if1 .taken)
@@ -19,4 +13,4 @@ unfolding readTimes
 returns-2 c = rw (← c .before .read .ensures, c .if1 .left)
 
 pub read-times-spec : {M : Type 1} → statement M
-read-times-spec = tie.close (tie.spec slice-aggregate-read read-requires returns returns-2)
+read-times-spec = tie.close (tie.spec (search needs) (search needs) returns returns-2)

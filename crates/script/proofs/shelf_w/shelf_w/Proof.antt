@@ -13,30 +13,6 @@ use Rattle.words.proofs.Steps.{done-words}
 use Rattle.script.proofs.shelf_w.shelf_w.Statement.{statement}
 use Rattle.script.proofs.shelf_w.shelf_w.Tie as tie
 
-array-write-groups : tie.Need-array-write-groups
-array-write-groups c = search needs
-
-array-write-groups-2 : tie.Need-array-write-groups-2
-array-write-groups-2 c = search needs
-
-array-write-groups-3 : tie.Need-array-write-groups-3
-array-write-groups-3 c = search needs
-
-array-write-groups-4 : tie.Need-array-write-groups-4
-array-write-groups-4 c = search needs
-
-array-write-table : tie.Need-array-write-table
-array-write-table c = search needs
-
-array-write-table-2 : tie.Need-array-write-table-2
-array-write-table-2 c = search needs
-
-array-write-table-3 : tie.Need-array-write-table-3
-array-write-table-3 c = search needs
-
-start-requires : tie.Need-start-requires
-start-requires c κs = search needs
-
 -- none of H1, H2 and H3 applies
 done-W : start 4 groupsW tableW identifierW .taken ≡ Done
 unfolding computes
@@ -53,12 +29,5 @@ pub shelf-w-spec : {M : Type 1} → statement M
 shelf-w-spec =
     tie.close
     (tie.spec
-    array-write-groups
-    array-write-groups-2
-    array-write-groups-3
-    array-write-groups-4
-    array-write-table
-    array-write-table-2
-    array-write-table-3
-    start-requires
+    (search needs) (search needs) (search needs) (search needs) (search needs) (search needs) (search needs) (search needs)
     returns)

@@ -6,9 +6,6 @@ use Rattle.script.specs.Text.{digit}
 use Rattle.script.proofs.text.digit.Statement.{statement}
 use Rattle.script.proofs.text.digit.Tie as tie
 
-add-result : tie.Need-add-result
-add-result c = search needs
-
 returns : tie.Need-returns
 unfolding digit
 returns c =
@@ -40,4 +37,4 @@ returns-5 c =
     simp (le-leb 0x30 b (omega arith), lt-leb b 0x39 (omega arith), le-leb 0x41 b (omega arith), lt-leb b 0x46 (omega arith))
 
 pub digit-spec : {M : Type 1} → statement M
-digit-spec = tie.close (tie.spec add-result returns returns-2 returns-3 returns-4 returns-5)
+digit-spec = tie.close (tie.spec (search needs) returns returns-2 returns-3 returns-4 returns-5)

@@ -4,12 +4,9 @@ use Rattle.script.specs.Text.{readNumber}
 use Rattle.script.proofs.text.read_number.Statement.{statement}
 use Rattle.script.proofs.text.read_number.Tie as tie
 
-digits-requires : tie.Need-digits-requires
-digits-requires c κs = search needs
-
 returns : tie.Need-returns
 unfolding readNumber
 returns c = rw (c .before .before .before .digits .ensures)
 
 pub read-number-spec : {M : Type 1} → statement M
-read-number-spec = tie.close (tie.spec digits-requires returns)
+read-number-spec = tie.close (tie.spec (search needs) returns)

@@ -5,15 +5,6 @@ use Rattle.script.specs.Text.{readOne}
 use Rattle.script.proofs.text.read_one.Statement.{statement}
 use Rattle.script.proofs.text.read_one.Tie as tie
 
-read-number-requires : tie.Need-read-number-requires
-read-number-requires c κs = search needs
-
-read-number-requires-2 : tie.Need-read-number-requires-2
-read-number-requires-2 c κs = search needs
-
-read-byte-requires : tie.Need-read-byte-requires
-read-byte-requires c κs = search needs
-
 returns : tie.Need-returns
 unfolding readOne
 returns c = simp (c .before .match .keys1) (c .read-number .ensures)
@@ -27,12 +18,4 @@ unfolding readOne
 returns-3 c = simp (ne-eqb _ _ (c .before .match .rest .0 .1), ne-eqb _ _ (c .before .match .rest .1)) (c .read-byte .ensures)
 
 pub read-one-spec : {M : Type 1} → statement M
-read-one-spec =
-    tie.close
-    (tie.spec
-    read-number-requires
-    read-number-requires-2
-    read-byte-requires
-    returns
-    returns-2
-    returns-3)
+read-one-spec = tie.close (tie.spec (search needs) (search needs) (search needs) returns returns-2 returns-3)
