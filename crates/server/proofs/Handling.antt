@@ -18,7 +18,7 @@ use Rattle.model.specs.declared.Shelf.{Shelf}
 use Rattle.model.specs.Reply.{failed, respond}
 use Rattle.model.specs.Request.{functionOf, judge}
 use Rattle.model.specs.Results.{resultCode, accepted, decide}
-use Rattle.model.specs.Server.{Handled, Sends, refuse, fail, conclude, handleJudged, handle, answer, lent, served, lentAfter}
+use Rattle.model.specs.Server.{leastBuffer, Handled, Sends, refuse, fail, conclude, handleJudged, handle, answer, lent, served, lentAfter}
 use Rattle.model.specs.Writes.{effect}
 use Rattle.model.proofs.Judged.{the-type}
 use Rattle.words.specs.Words.{shelfOf, laidOver}
@@ -53,15 +53,15 @@ module _ (ws : List ℕ) (g : ℕ) (frame out : List ℕ) where
   unfolding handle
   serves-H4 above same = serves (refuse s SourceGroup) (rw (lt-ltb 31 g above)) refl same refl
 
-  pub serves-H5 : g ≤ 31 → length out < 1028 → ws ≡ laidOver ws s → Serves (answer (refuse s ShortBuffer .reply)) ws out
+  pub serves-H5 : g ≤ 31 → length out < leastBuffer → ws ≡ laidOver ws s → Serves (answer (refuse s ShortBuffer .reply)) ws out
   unfolding handle
-  serves-H5 group short same = serves (refuse s ShortBuffer) (rw (le-ltb 31 g group, lt-ltb (length out) 1028 short)) refl same refl
+  serves-H5 group short same = serves (refuse s ShortBuffer) (rw (le-ltb 31 g group, lt-ltb (length out) leastBuffer short)) refl same refl
 
   -- past H4 and H5 the judgement decides
-  module _ (group : g ≤ 31) (room : 1028 ≤ length out) where
+  module _ (group : g ≤ 31) (room : leastBuffer ≤ length out) where
     judged-handled : handle s g frame (length out) ≡ handleJudged s g frame (judge frame)
     unfolding handle
-    judged-handled = rw (le-ltb 31 g group, le-ltb (length out) 1028 room)
+    judged-handled = rw (le-ltb 31 g group, le-ltb (length out) leastBuffer room)
 
     -- where no request was read, the judgement is answered and the shelf stays
     turned : (judged : Judged) → NotAsked judged

@@ -1,6 +1,8 @@
--- The numbers that are read straight out of the words, how a request is answered, and what it comes to as a whole.
+-- The numbers that are read straight out of the words, how a request is answered, how what is done to a phy is carried out, and what a
+-- request comes to as a whole.
 pub mod Numbers
 pub mod Answering
+pub mod Carrying
 pub mod Handling
 -- Each public promise settles its outcome.
 pub mod Settled

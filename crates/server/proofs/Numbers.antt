@@ -9,10 +9,6 @@ module _ (ws : List ℕ) where
   unfolding shelfOf
   number-read = refl
 
-  pub changes-read : wordAt ws 1 % 0x10000 ≡ shelfOf ws .changes
-  unfolding shelfOf
-  changes-read = refl
-
   pub expander3-read : wordAt ws 2 % 0x10000 ≡ shelfOf ws .expander3
   unfolding shelfOf
   expander3-read = refl

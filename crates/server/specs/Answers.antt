@@ -7,10 +7,8 @@ use mathlib.Core.List.{List}
 use lib.ListN.{length}
 use Rattle.model.specs.declared.FunctionResult.{FunctionResult}
 use Rattle.model.specs.declared.Shelf.{Shelf}
-use Rattle.model.specs.Reach.{reaches}
-use Rattle.model.specs.Results.{accepted, countRight, checkRead, checkWrite, checkOperation, checkDescriptors}
+use Rattle.model.specs.Results.{accepted}
 use Rattle.model.specs.Server.{over}
-use Rattle.model.specs.Shelf.{exists}
 use Rattle.words.specs.Words.{shelfOf, laidOver}
 
 -- These bytes have been sent: how many they are, and the buffer afterwards, which holds them and behind them its old rest.
@@ -20,15 +18,3 @@ Answers out bytes size after = (size ≡ length bytes) × (after ≡ over out by
 -- The words that a result leaves: those of the shelf with the effect where it is accepted, and otherwise as they were.
 abbrev pub leavesWords : List ℕ → FunctionResult → Shelf → List ℕ
 leavesWords ws result effected = laidOver ws (cond (accepted result) effected (shelfOf ws))
-
--- What a read of phy p, a 91h and a 93h come to on the shelf that the words stand for, from source group g.
-abbrev pub readResult : List ℕ → ℕ → ℕ → FunctionResult
-readResult ws g p = checkRead (exists (shelfOf ws) p) (reaches (shelfOf ws) g p)
-
-abbrev pub controlResult : List ℕ → ℕ → ℕ → ℕ → ℕ → FunctionResult
-controlResult ws g expected p operation =
-    checkWrite (countRight (shelfOf ws .changes) expected) (exists (shelfOf ws) p) (reaches (shelfOf ws) g p) (checkOperation operation)
-
-abbrev pub configureResult : List ℕ → ℕ → List ℕ → ℕ → ℕ → ℕ → FunctionResult
-configureResult ws g frame expected p d =
-    checkWrite (countRight (shelfOf ws .changes) expected) (exists (shelfOf ws) p) (reaches (shelfOf ws) g p) (checkDescriptors frame d)

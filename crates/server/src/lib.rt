@@ -1,5 +1,5 @@
-// The server: start, requests, reports, notices and the reach query, on a shelf that its caller keeps in 548 words
-// (crate `words`) and lends to each call.
+// The server: start, requests, reports, notices and the reach query, on a shelf that its caller keeps in words of
+// 32 bits (crate `words`) and lends to each call.
 //
 // The shelf stays where it is. Each function takes the pieces that it needs out of the words, has the other crates
 // decide and count on them by value, and puts back at most one phy's record and the counts. Data flows one way: the
@@ -14,6 +14,8 @@ mod reads;
 mod request;
 mod writing;
 
+use crate::pieces::changes_after;
+use crate::pieces::there;
 use crate::reach::reach_set;
 use crate::request::serve_asked;
 use crate::request::turned_away;
@@ -26,9 +28,9 @@ use gate::frame::judge;
 use model::Answer;
 use model::House;
 use model::Judged;
+use model::LEAST_BUFFER;
 use model::Reach;
 use model::Taken;
-use shelf::phys::exists;
 use shelf::start::start_taken;
 use words::WORDS;
 use words::fresh::lay_fresh;
@@ -78,7 +80,7 @@ pub fn serve(words: &mut [u32; WORDS], source: u32, frame: &[u8], out: &mut [u8]
     if 31 < source {
         return Answer::NoResponse(House::SourceGroup);
     }
-    if out.len() < 1028 {
+    if out.len() < LEAST_BUFFER {
         return Answer::NoResponse(House::ShortBuffer);
     }
     let function = byte_at(frame, 1);
@@ -97,12 +99,13 @@ pub fn event(words: &mut [u32; WORDS], phy: u32, source: u32, amount: u32) -> Ta
         ≡ laidOver (now (words .entry)) (event (shelfOf (now (words .entry))) phy source amount .shelf) ⌝ }
 {
     let all: &[u32] = words;
-    let taken = event_taken(exists(all[0], phy), source, amount);
+    let taken = event_taken(there(words, phy), source, amount);
     let Taken::Done = taken else {
         return taken;
     };
-    let changes = low16(all[1]);
-    let after = event_on(source, amount, phy_at(words, phy));
+    let done = event_on(source, amount, phy_at(words, phy));
+    let after = done.phy;
+    let changes = changes_after(words, done.change);
     put(words, phy, after, changes);
     Taken::Done
 }
@@ -115,12 +118,14 @@ pub fn link_change(words: &mut [u32; WORDS], phy: u32) -> Taken
         ≡ laidOver (now (words .entry)) (linkChange (shelfOf (now (words .entry))) phy .shelf) ⌝ }
 {
     let all: &[u32] = words;
-    if !exists(all[0], phy) {
+    if !there(words, phy) {
         return Taken::NotDone(House::NoSuchPhy);
     }
-    let changes = originate(low16(all[1]));
     let before = phy_at(words, phy);
-    put(words, phy, change_on(before.enabled, before), changes);
+    let done = change_on(before.enabled, before);
+    let after = done.phy;
+    let changes = changes_after(words, done.change);
+    put(words, phy, after, changes);
     Taken::Done
 }
 

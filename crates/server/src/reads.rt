@@ -1,6 +1,6 @@
 // The reads, each answered from the words that it needs and no others. Each gives the length of its response.
-use crate::pieces::reached;
-use crate::pieces::there;
+use crate::pieces::changes;
+use crate::pieces::grounds;
 use broadcasts::report_broadcast;
 use model::FunctionResult;
 use replies::fixed::report_general;
@@ -13,39 +13,41 @@ use results::check_read;
 use shelf::phys::phy_number;
 use words::WORDS;
 use words::read::identifier;
-use words::read::low16;
 use words::read::phy_at;
 ghost use mathlib.Core.Path.{_≡_};
 ghost use Prim.Native.Nat.{_≤_};
 ghost use lib.ListN.{length};
 ghost use Rattle.model.specs.declared.Request.the-variants.{ReportBroadcast, ReportPhyErrorLog, ReportPhyEvent};
 ghost use Rattle.model.specs.Reply.{reportGeneral, reportManufacturer};
-ghost use Rattle.model.specs.Results.{checkKind};
+ghost use Rattle.model.specs.Results.{grounds, checkKind, checkRead};
+ghost use Rattle.model.specs.Server.{leastBuffer};
 ghost use Rattle.model.specs.Shelf.{phyNumber};
 ghost use Rattle.server.specs.Serving.{drawn};
 ghost use Rattle.words.specs.Words.{shelfOf};
-ghost use Rattle.server.specs.Answers.{Answers, readResult};
+ghost use Rattle.server.specs.Answers.{Answers};
 
 // 00h
 pub(crate) fn serve_general(words: &[u32; WORDS], out: &mut [u8]) -> usize
-    requires { ⌜ 1028 ≤ length (now out) ⌝ }
+    requires { ⌜ leastBuffer ≤ length (now out) ⌝ }
     ensures { λ r.
         ⌜ Answers (now (out .entry))
         (reportGeneral (shelfOf (now (words .entry)) .changes) (phyNumber (shelfOf (now (words .entry)))) (shelfOf (now (words .entry)) .identifier))
         r (now (out .exit)) ⌝ }
 {
     let number = phy_number(words[0]) as u8;
-    let changes = low16(words[1]);
-    bytes::copy(&report_general(changes, number, identifier(words)), out)
+    bytes::copy(
+        &report_general(changes(words), number, identifier(words)),
+        out,
+    )
 }
 
 // 01h
 pub(crate) fn serve_manufacturer(words: &[u32; WORDS], out: &mut [u8]) -> usize
-    requires { ⌜ 1028 ≤ length (now out) ⌝ }
+    requires { ⌜ leastBuffer ≤ length (now out) ⌝ }
     ensures { λ r.
         ⌜ Answers (now (out .entry)) (reportManufacturer (shelfOf (now (words .entry)) .changes)) r (now (out .exit)) ⌝ }
 {
-    bytes::copy(&report_manufacturer(low16(words[1])), out)
+    bytes::copy(&report_manufacturer(changes(words)), out)
 }
 
 // 06h
@@ -56,7 +58,7 @@ pub(crate) fn serve_broadcast(
     function: u8,
     out: &mut [u8],
 ) -> usize
-    requires { ⌜ 1028 ≤ length (now out) ⌝ }
+    requires { ⌜ leastBuffer ≤ length (now out) ⌝ }
     ensures { λ r.
         ⌜ Answers (now (out .entry))
         (drawn (shelfOf (now (words .entry))) source (ReportBroadcast kind) function (checkKind kind)) r (now (out .exit)) ⌝ }
@@ -70,9 +72,9 @@ pub(crate) fn serve_broadcast(
 
 // What a read of a phy comes to: 10h, 16h, or accepted.
 fn read_result(words: &[u32; WORDS], source: u32, phy: u8) -> FunctionResult
-    ensures { λ r. ⌜ r ≡ readResult (now (words .entry)) source phy ⌝ }
+    ensures { λ r. ⌜ r ≡ checkRead (grounds (shelfOf (now (words .entry))) source phy) ⌝ }
 {
-    check_read(there(words, phy), reached(words, source, phy))
+    check_read(grounds(words, source, phy as u32))
 }
 
 // 11h
@@ -83,19 +85,18 @@ pub(crate) fn serve_error_log(
     function: u8,
     out: &mut [u8],
 ) -> usize
-    requires { ⌜ 1028 ≤ length (now out) ⌝ }
+    requires { ⌜ leastBuffer ≤ length (now out) ⌝ }
     ensures { λ r.
         ⌜ Answers (now (out .entry))
-        (drawn (shelfOf (now (words .entry))) source (ReportPhyErrorLog phy) function (readResult (now (words .entry)) source phy))
+        (drawn (shelfOf (now (words .entry))) source (ReportPhyErrorLog phy) function (checkRead (grounds (shelfOf (now (words .entry))) source phy)))
         r (now (out .exit)) ⌝ }
 {
     let result = read_result(words, source, phy);
     let FunctionResult::Accepted = result else {
         return send_result(function, result, out);
     };
-    let changes = low16(words[1]);
     bytes::copy(
-        &report_phy_error_log(changes, phy, phy_at(words, phy as u32)),
+        &report_phy_error_log(changes(words), phy, phy_at(words, phy as u32)),
         out,
     )
 }
@@ -108,19 +109,18 @@ pub(crate) fn serve_phy_event(
     function: u8,
     out: &mut [u8],
 ) -> usize
-    requires { ⌜ 1028 ≤ length (now out) ⌝ }
+    requires { ⌜ leastBuffer ≤ length (now out) ⌝ }
     ensures { λ r.
         ⌜ Answers (now (out .entry))
-        (drawn (shelfOf (now (words .entry))) source (ReportPhyEvent phy) function (readResult (now (words .entry)) source phy))
+        (drawn (shelfOf (now (words .entry))) source (ReportPhyEvent phy) function (checkRead (grounds (shelfOf (now (words .entry))) source phy)))
         r (now (out .exit)) ⌝ }
 {
     let result = read_result(words, source, phy);
     let FunctionResult::Accepted = result else {
         return send_result(function, result, out);
     };
-    let changes = low16(words[1]);
     bytes::copy(
-        &report_phy_event(changes, phy, phy_at(words, phy as u32)),
+        &report_phy_event(changes(words), phy, phy_at(words, phy as u32)),
         out,
     )
 }

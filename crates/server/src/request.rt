@@ -15,14 +15,14 @@ ghost use mathlib.Core.Path.{_≡_};
 ghost use Prim.Native.Nat.{_≤_};
 ghost use lib.ListN.{length};
 ghost use Rattle.model.specs.Results.{decide};
-ghost use Rattle.model.specs.Server.{answer, lent};
+ghost use Rattle.model.specs.Server.{leastBuffer, answer, lent};
 ghost use Rattle.server.specs.Serving.{judgedReply, drawn, leaves};
 ghost use Rattle.words.specs.Words.{shelfOf, laidOver};
 ghost use Rattle.server.specs.Answers.{Answers};
 
 // What is answered where no request could be read from the frame: H6, or 01h or 03h in a failed response.
 pub(crate) fn turned_away(judged: Judged, function: u8, out: &mut [u8]) -> Answer
-    requires { ⌜ 1028 ≤ length (now out) ⌝ }
+    requires { ⌜ leastBuffer ≤ length (now out) ⌝ }
     ensures told { λ r. ⌜ r ≡ answer (judgedReply function judged) ⌝ }
     ensures left { λ _. ⌜ now (out .exit) ≡ lent (now (out .entry)) (judgedReply function judged) ⌝ }
 {
@@ -43,7 +43,7 @@ pub(crate) fn serve_asked(
     function: u8,
     out: &mut [u8],
 ) -> usize
-    requires { ⌜ 1028 ≤ length (now out) ⌝ }
+    requires { ⌜ leastBuffer ≤ length (now out) ⌝ }
     ensures sent { λ r.
         ⌜ Answers (now (out .entry))
         (drawn (shelfOf (now (words .entry))) source request function (decide (shelfOf (now (words .entry))) source (now (frame .entry)) request))

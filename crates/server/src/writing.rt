@@ -1,56 +1,56 @@
-// The two writes: each is decided from pieces of the words, and puts back its phy's record and, where Change is originated, the
-// change count. Each gives the length of its response.
-use crate::pieces::reached;
-use crate::pieces::there;
-use counters::counts::originate;
+// The two writes: each is decided on its grounds, and where it is accepted its effect is carried out. Each gives the length of
+// its response.
+use crate::pieces::changes_after;
+use crate::pieces::grounds;
 use model::FunctionResult;
 use replies::sending::send_result;
 use results::check_configure;
 use results::check_control;
 use words::WORDS;
-use words::read::low16;
 use words::read::phy_at;
 use words::store::put;
 use writes::configure::configured;
-use writes::control::control_changes;
 use writes::control::controlled;
 ghost use mathlib.Core.Path.{_≡_};
 ghost use Prim.Native.Nat.{_≤_};
 ghost use lib.ListN.{length};
 ghost use Rattle.model.specs.declared.Request.the-variants.{PhyControl, ConfigurePhyEvent};
-ghost use Rattle.model.specs.Writes.{control, configure};
+ghost use Rattle.model.specs.Counting.{carriedOut};
+ghost use Rattle.model.specs.Results.{grounds, checkWrite, checkOperation, checkDescriptors};
+ghost use Rattle.model.specs.Server.{leastBuffer};
+ghost use Rattle.model.specs.Shelf.{phyAt};
+ghost use Rattle.model.specs.Writes.{controlled, configured};
+ghost use Rattle.server.specs.Answers.{Answers, leavesWords};
 ghost use Rattle.server.specs.Serving.{drawn};
 ghost use Rattle.words.specs.Words.{shelfOf, laidOver};
-ghost use Rattle.server.specs.Answers.{Answers, leavesWords, controlResult, configureResult};
 
-// An accepted 91h: another record for its phy, and, where Change is originated, the change count.
+// An accepted 91h: what it does to its phy is carried out on the words.
 fn control(words: &mut [u32; WORDS], phy: u8, operation: u8)
-    ensures { λ _. ⌜ now (words .exit) ≡ laidOver (now (words .entry)) (control (shelfOf (now (words .entry))) phy operation) ⌝ }
+    ensures { λ _.
+        ⌜ now (words .exit)
+        ≡ laidOver (now (words .entry))
+        (carriedOut (shelfOf (now (words .entry))) phy (controlled operation (phyAt (shelfOf (now (words .entry))) phy))) ⌝ }
 {
     let before = phy_at(words, phy as u32);
-    let count = low16(words[1]);
-    let changes = if control_changes(operation, before) {
-        originate(count)
-    } else {
-        count
-    };
-    put(words, phy as u32, controlled(operation, before), changes);
+    let done = controlled(operation, before);
+    let after = done.phy;
+    let changes = changes_after(words, done.change);
+    put(words, phy as u32, after, changes);
 }
 
-// An accepted 93h with d descriptors: another record for its phy.
+// An accepted 93h with d descriptors, likewise.
 fn configure(words: &mut [u32; WORDS], frame: &[u8], clear: bool, phy: u8, d: u8)
     ensures { λ _.
         ⌜ now (words .exit)
-        ≡ laidOver (now (words .entry)) (configure (shelfOf (now (words .entry))) (now (frame .entry)) clear phy d) ⌝ }
+        ≡ laidOver (now (words .entry))
+        (carriedOut (shelfOf (now (words .entry))) phy
+        (configured (now (frame .entry)) d clear (phyAt (shelfOf (now (words .entry))) phy))) ⌝ }
 {
     let before = phy_at(words, phy as u32);
-    let count = low16(words[1]);
-    put(
-        words,
-        phy as u32,
-        configured(frame, d, clear, before),
-        count,
-    );
+    let done = configured(frame, d, clear, before);
+    let after = done.phy;
+    let changes = changes_after(words, done.change);
+    put(words, phy as u32, after, changes);
 }
 
 // 91h. "Response 4 bytes": the result, accepted or not.
@@ -63,25 +63,20 @@ pub(crate) fn serve_control(
     function: u8,
     out: &mut [u8],
 ) -> usize
-    requires { ⌜ 1028 ≤ length (now out) ⌝ }
+    requires { ⌜ leastBuffer ≤ length (now out) ⌝ }
     ensures sent { λ r.
         ⌜ Answers (now (out .entry))
-        (drawn (shelfOf (now (words .entry))) source (PhyControl expected phy operation) function (controlResult (now (words .entry)) source expected phy operation))
+        (drawn (shelfOf (now (words .entry))) source (PhyControl expected phy operation) function
+        (checkWrite (grounds (shelfOf (now (words .entry))) source phy) expected (checkOperation operation)))
         r (now (out .exit)) ⌝ }
     ensures kept { λ _.
         ⌜ now (words .exit)
-        ≡ leavesWords (now (words .entry)) (controlResult (now (words .entry)) source expected phy operation)
-        (control (shelfOf (now (words .entry))) phy operation) ⌝ }
+        ≡ leavesWords (now (words .entry))
+        (checkWrite (grounds (shelfOf (now (words .entry))) source phy) expected (checkOperation operation))
+        (carriedOut (shelfOf (now (words .entry))) phy (controlled operation (phyAt (shelfOf (now (words .entry))) phy))) ⌝ }
 {
     let all: &[u32] = words;
-    let changes = low16(all[1]);
-    let result = check_control(
-        changes,
-        expected,
-        there(words, phy),
-        reached(words, source, phy),
-        operation,
-    );
+    let result = check_control(grounds(words, source, phy as u32), expected, operation);
     let FunctionResult::Accepted = result else {
         return send_result(function, result, out);
     };
@@ -101,26 +96,21 @@ pub(crate) fn serve_configure(
     function: u8,
     out: &mut [u8],
 ) -> usize
-    requires { ⌜ 1028 ≤ length (now out) ⌝ }
+    requires { ⌜ leastBuffer ≤ length (now out) ⌝ }
     ensures sent { λ r.
         ⌜ Answers (now (out .entry))
-        (drawn (shelfOf (now (words .entry))) source (ConfigurePhyEvent expected clear phy d) function (configureResult (now (words .entry)) source (now (frame .entry)) expected phy d))
+        (drawn (shelfOf (now (words .entry))) source (ConfigurePhyEvent expected clear phy d) function
+        (checkWrite (grounds (shelfOf (now (words .entry))) source phy) expected (checkDescriptors (now (frame .entry)) d)))
         r (now (out .exit)) ⌝ }
     ensures kept { λ _.
         ⌜ now (words .exit)
-        ≡ leavesWords (now (words .entry)) (configureResult (now (words .entry)) source (now (frame .entry)) expected phy d)
-        (configure (shelfOf (now (words .entry))) (now (frame .entry)) clear phy d) ⌝ }
+        ≡ leavesWords (now (words .entry))
+        (checkWrite (grounds (shelfOf (now (words .entry))) source phy) expected (checkDescriptors (now (frame .entry)) d))
+        (carriedOut (shelfOf (now (words .entry))) phy
+        (configured (now (frame .entry)) d clear (phyAt (shelfOf (now (words .entry))) phy))) ⌝ }
 {
     let all: &[u32] = words;
-    let changes = low16(all[1]);
-    let result = check_configure(
-        changes,
-        expected,
-        there(words, phy),
-        reached(words, source, phy),
-        frame,
-        d,
-    );
+    let result = check_configure(grounds(words, source, phy as u32), expected, frame, d);
     let FunctionResult::Accepted = result else {
         return send_result(function, result, out);
     };

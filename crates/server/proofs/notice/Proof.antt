@@ -7,24 +7,6 @@ use Rattle.server.proofs.Numbers.{expander3-read, ses0-read}
 use Rattle.server.proofs.notice.Statement.{statement}
 use Rattle.server.proofs.notice.Tie as tie
 
-element-copy-out-low16 : tie.Need-element-copy-out-low16
-element-copy-out-low16 c = search needs
-
-low16-requires : tie.Need-low16-requires
-low16-requires c κs = search needs
-
-element-copy-out-low16-2 : tie.Need-element-copy-out-low16-2
-element-copy-out-low16-2 c = search needs
-
-low16-requires-2 : tie.Need-low16-requires-2
-low16-requires-2 c κs = search needs
-
-originate-requires : tie.Need-originate-requires
-originate-requires c κs = search needs
-
-put-device-requires : tie.Need-put-device-requires
-put-device-requires c κs = search needs
-
 returns : tie.Need-returns
 unfolding sesNotice
 returns c =
@@ -35,12 +17,6 @@ returns c =
     let expander3 = first .low16 .ensures ∙ expander3-read (a .words .now) in
     let ses0 = c .before .originate .ensures ∙ ap originate (second .low162 .ensures ∙ ses0-read (a .words .now)) in
     rw (then .if1 .taken, ← expander3, ← ses0) (c .put-device .ensures)
-
-originate-requires-2 : tie.Need-originate-requires-2
-originate-requires-2 c κs = search needs
-
-put-device-requires-2 : tie.Need-put-device-requires-2
-put-device-requires-2 c κs = search needs
 
 returns-2 : tie.Need-returns-2
 unfolding reducedFunctionality
@@ -57,13 +33,5 @@ pub notice-spec : {M : Type 1} → statement M
 notice-spec =
     tie.close
     (tie.spec
-    element-copy-out-low16
-    low16-requires
-    element-copy-out-low16-2
-    low16-requires-2
-    originate-requires
-    put-device-requires
-    returns
-    originate-requires-2
-    put-device-requires-2
-    returns-2)
+    (search needs) (search needs) (search needs) (search needs) (search needs) (search needs) returns (search needs)
+    (search needs) returns-2)

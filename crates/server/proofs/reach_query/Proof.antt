@@ -13,9 +13,6 @@ returns c =
     let a = c .before .args in
     sym (reach-refused (shelfOf (a .words .now)) (a .source) (omega arith))
 
-reach-set-requires : tie.Need-reach-set-requires
-reach-set-requires c κs = search needs
-
 returns-2 : tie.Need-returns-2
 returns-2 c =
     let a = c .before .before .args in
@@ -24,4 +21,4 @@ returns-2 c =
     rw (reach-answered s (a .source) (omega arith), reach-ones, ← set) refl
 
 pub reach-query-spec : {M : Type 1} → statement M
-reach-query-spec = tie.close (tie.spec returns reach-set-requires returns-2)
+reach-query-spec = tie.close (tie.spec returns (search needs) returns-2)

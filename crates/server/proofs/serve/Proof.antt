@@ -20,21 +20,6 @@ returns-2 c =
     let ws = a .words .now in
     serves-H5 ws (a .source) (a .frame .now) (a .out .now) (omega arith) (omega arith) (sym (laid-same ws (omega arith)))
 
-byte-at-requires : tie.Need-byte-at-requires
-byte-at-requires c κs = search needs
-
-judge-requires : tie.Need-judge-requires
-judge-requires c κs = search needs
-
-enum-known-judged : tie.Need-enum-known-judged
-enum-known-judged c = search needs
-
-turned-away-requires : tie.Need-turned-away-requires
-turned-away-requires c κs = search needs
-
-same-length : tie.Need-same-length
-same-length c = search needs
-
 returns-3 : tie.Need-returns-3
 returns-3 c =
     let away = c .before .before in
@@ -48,12 +33,6 @@ returns-3 c =
     (sym (laid-same ws (omega arith)))
     (answered .0)
     (answered .1)
-
-serve-asked-requires : tie.Need-serve-asked-requires
-serve-asked-requires c κs = search needs
-
-same-length-2 : tie.Need-same-length-2
-same-length-2 c = search needs
 
 returns-4 : tie.Need-returns-4
 returns-4 c =
@@ -70,14 +49,5 @@ pub serve-spec : {M : Type 1} → statement M
 serve-spec =
     tie.close
     (tie.spec
-    returns
-    returns-2
-    byte-at-requires
-    judge-requires
-    enum-known-judged
-    turned-away-requires
-    same-length
-    returns-3
-    serve-asked-requires
-    same-length-2
-    returns-4)
+    returns returns-2 (search needs) (search needs) (search needs) (search needs) (search needs) returns-3 (search needs)
+    (search needs) returns-4)

@@ -6,15 +6,6 @@ use Rattle.words.specs.Words.{shelfOf}
 use Rattle.server.proofs.pieces.reached.Statement.{statement}
 use Rattle.server.proofs.pieces.reached.Tie as tie
 
-phy-at-requires : tie.Need-phy-at-requires
-phy-at-requires c κs = search needs
-
-row-requires : tie.Need-row-requires
-row-requires c κs = search needs
-
-smp-row-reaches-requires : tie.Need-smp-row-reaches-requires
-smp-row-reaches-requires c κs = search needs
-
 returns : tie.Need-returns
 returns c =
     let read = c .before .before in
@@ -23,4 +14,4 @@ returns c =
     rw (← own, ← read .phy-at .ensures) (c .smp-row-reaches .ensures)
 
 pub reached-spec : {M : Type 1} → statement M
-reached-spec = tie.close (tie.spec phy-at-requires row-requires smp-row-reaches-requires returns)
+reached-spec = tie.close (tie.spec (search needs) (search needs) (search needs) returns)

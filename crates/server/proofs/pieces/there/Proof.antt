@@ -4,15 +4,9 @@ use Rattle.words.specs.Words.{shelfOf}
 use Rattle.server.proofs.pieces.there.Statement.{statement}
 use Rattle.server.proofs.pieces.there.Tie as tie
 
-element-copy-out-exists : tie.Need-element-copy-out-exists
-element-copy-out-exists c = search needs
-
-exists-requires : tie.Need-exists-requires
-exists-requires c κs = search needs
-
 returns : tie.Need-returns
 unfolding shelfOf
 returns c = c .exists .ensures
 
 pub there-spec : {M : Type 1} → statement M
-there-spec = tie.close (tie.spec element-copy-out-exists exists-requires returns)
+there-spec = tie.close (tie.spec (search needs) (search needs) returns)

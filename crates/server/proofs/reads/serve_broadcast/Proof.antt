@@ -8,32 +8,8 @@ use Rattle.server.proofs.Answering.{sent-all, fails, grants}
 use Rattle.server.proofs.reads.serve_broadcast.Statement.{statement}
 use Rattle.server.proofs.reads.serve_broadcast.Tie as tie
 
-check-kind-requires : tie.Need-check-kind-requires
-check-kind-requires c κs = search needs
-
-enum-told : tie.Need-enum-told
-enum-told c = search needs
-
-send-result-requires : tie.Need-send-result-requires
-send-result-requires c κs = search needs
-
-same-length : tie.Need-same-length
-same-length c = search needs
-
 returns : tie.Need-returns
-returns c =
-    let sent = c .before .before in
-    let failed = sent .before .before in
-    let checked = failed .before in
-    let a = checked .before .before .args in
-    fails (shelfOf (a .words .now)) (a .source) (ReportBroadcast (a .kind)) (a .function) (checked .check-kind .ensures) (a .out .now) (failed .match .keys2)
-    (omega arith) (sent .send-result .ensures)
-
-report-broadcast-requires : tie.Need-report-broadcast-requires
-report-broadcast-requires c κs = search needs
-
-same-length-2 : tie.Need-same-length-2
-same-length-2 c = search needs
+returns c = search (fails, arith)
 
 returns-2 : tie.Need-returns-2
 unfolding respond
@@ -49,13 +25,4 @@ returns-2 c =
 
 pub serve-broadcast-spec : {M : Type 1} → statement M
 serve-broadcast-spec =
-    tie.close
-    (tie.spec
-    check-kind-requires
-    enum-told
-    send-result-requires
-    same-length
-    returns
-    report-broadcast-requires
-    same-length-2
-    returns-2)
+    tie.close (tie.spec (search needs) (search needs) (search needs) (search needs) returns (search needs) (search needs) returns-2)

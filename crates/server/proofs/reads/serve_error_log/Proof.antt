@@ -1,57 +1,16 @@
 -- `server::reads::serve_error_log` meets its contract: a failed result, or the response from the phy's record. Assumes nothing.
 use borrow.Author.Needs.{needs}
 use native.Mathlib.Omega.{arith}
-use mathlib.Core.Path.{_≡_}
+use mathlib.Core.Path.{refl}
 use Rattle.model.specs.declared.Request.the-variants.{ReportPhyErrorLog}
 use Rattle.model.specs.Reply.{reportPhyErrorLog, respond}
-use Rattle.model.specs.Shelf.{phyAt}
 use Rattle.words.specs.Words.{shelfOf}
-use Rattle.server.proofs.Answering.{copied, fails, grants}
-use Rattle.server.proofs.Numbers.{changes-read}
+use Rattle.server.proofs.Answering.{fails, reports}
 use Rattle.server.proofs.reads.serve_error_log.Statement.{statement}
 use Rattle.server.proofs.reads.serve_error_log.Tie as tie
 
-read-result-requires : tie.Need-read-result-requires
-read-result-requires c κs = search needs
-
-enum-told : tie.Need-enum-told
-enum-told c = search needs
-
-send-result-requires : tie.Need-send-result-requires
-send-result-requires c κs = search needs
-
-same-length : tie.Need-same-length
-same-length c = search needs
-
 returns : tie.Need-returns
-returns c =
-    let sent = c .before .before in
-    let failed = sent .before .before in
-    let checked = failed .before in
-    let a = checked .before .before .args in
-    fails (shelfOf (a .words .now)) (a .source) (ReportPhyErrorLog (a .phy)) (a .function) (checked .read-result .ensures) (a .out .now) (failed .match .keys2)
-    (omega arith) (sent .send-result .ensures)
-
-element-copy-out-low16 : tie.Need-element-copy-out-low16
-element-copy-out-low16 c = search needs
-
-low16-requires : tie.Need-low16-requires
-low16-requires c κs = search needs
-
-phy-at-requires : tie.Need-phy-at-requires
-phy-at-requires c κs = search needs
-
-report-phy-error-log-requires : tie.Need-report-phy-error-log-requires
-report-phy-error-log-requires c κs = search needs
-
-slice-aggregate-copy : tie.Need-slice-aggregate-copy
-slice-aggregate-copy c = search needs
-
-copy-requires : tie.Need-copy-requires
-copy-requires c κs = search needs
-
-same-length-2 : tie.Need-same-length-2
-same-length-2 c = search needs
+returns c = search (fails, arith)
 
 returns-2 : tie.Need-returns-2
 unfolding respond
@@ -60,29 +19,19 @@ returns-2 c =
     let made = sent .before .before .before in
     let read = made .before in
     let counted = read .before in
-    let granted = counted .before .before in
+    let granted = counted .before in
     let checked = granted .before .before in
     let a = checked .before .before .args in
-    let s = shelfOf (a .words .now) in
-    let bytes : made .report-phy-error-log .result ≡ reportPhyErrorLog (s .changes) (a .phy) (phyAt s (a .phy)) =
-    rw (read .phy-at .ensures, counted .low16 .ensures, changes-read (a .words .now)) at (made .report-phy-error-log .ensures) in
-    grants s (a .source) (ReportPhyErrorLog (a .phy)) (a .function) (checked .read-result .ensures) (a .out .now) (granted .enum-told .given .1)
-    (copied (a .out .now) (sent .copy .ensures .0) (sent .copy .ensures .1) bytes)
+    reports (shelfOf (a .words .now)) (a .source) (ReportPhyErrorLog (a .phy)) (a .function) (checked .read-result .ensures) (a .out .now) (a .phy) reportPhyErrorLog
+    refl
+    (granted .enum-told .given .1)
+    (counted .changes .ensures)
+    (read .phy-at .ensures)
+    (made .report-phy-error-log .ensures)
+    (sent .copy .ensures .0)
+    (sent .copy .ensures .1)
 
 pub serve-error-log-spec : {M : Type 1} → statement M
 serve-error-log-spec =
     tie.close
-    (tie.spec
-    read-result-requires
-    enum-told
-    send-result-requires
-    same-length
-    returns
-    element-copy-out-low16
-    low16-requires
-    phy-at-requires
-    report-phy-error-log-requires
-    slice-aggregate-copy
-    copy-requires
-    same-length-2
-    returns-2)
+    (tie.spec (search needs) (search needs) (search needs) (search needs) returns (search needs) (search needs) (search needs) (search needs) (search needs) (search needs) returns-2)

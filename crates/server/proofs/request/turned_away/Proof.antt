@@ -7,26 +7,11 @@ use Rattle.replies.proofs.Room.{has-room}
 use Rattle.server.proofs.request.turned_away.Statement.{statement}
 use Rattle.server.proofs.request.turned_away.Tie as tie
 
-enum-told : tie.Need-enum-told
-enum-told c = search needs
-
-enum-known-judged : tie.Need-enum-known-judged
-enum-known-judged c = search needs
-
-enum-known-judged-2 : tie.Need-enum-known-judged-2
-enum-known-judged-2 c = search needs
-
-send-result-requires : tie.Need-send-result-requires
-send-result-requires c κs = search needs
-
 returns : tie.Need-returns
 returns c = rw (c .enum-told .given .1) (refl, refl)
 
 returns-2 : tie.Need-returns-2
 returns-2 c = rw (c .before .judged .given .1) (refl, refl)
-
-same-length : tie.Need-same-length
-same-length c = search needs
 
 returns-3 : tie.Need-returns-3
 returns-3 c =
@@ -38,13 +23,4 @@ returns-3 c =
 
 pub turned-away-spec : {M : Type 1} → statement M
 turned-away-spec =
-    tie.close
-    (tie.spec
-    enum-told
-    enum-known-judged
-    enum-known-judged-2
-    send-result-requires
-    returns
-    returns-2
-    same-length
-    returns-3)
+    tie.close (tie.spec (search needs) (search needs) (search needs) (search needs) returns returns-2 (search needs) returns-3)

@@ -2,80 +2,40 @@
 use borrow.Author.Needs.{needs}
 use native.Mathlib.Omega.{arith}
 use Prim.Native.Nat.{_≤_}
-use mathlib.Core.Path.{_≡_, sym}
+use mathlib.Core.Path.{_≡_, refl}
 use lib.ListN.{length}
+use Rattle.model.specs.declared.Request.the-variants.{PhyControl}
+use Rattle.model.specs.Counting.{carriedOut}
 use Rattle.model.specs.Reply.{respond}
-use Rattle.results.proofs.Passing.{not-accepted}
-use Rattle.words.proofs.Laying.{laid-same}
-use Rattle.server.specs.Answers.{controlResult}
-use Rattle.server.proofs.Answering.{sent-all}
-use Rattle.server.proofs.Numbers.{changes-read}
+use Rattle.model.specs.Server.{leastBuffer}
+use Rattle.model.specs.Shelf.{phyAt}
+use Rattle.model.specs.Writes.{controlled}
+use Rattle.words.specs.Sizes.{shelfWords}
+use Rattle.words.specs.Words.{shelfOf}
+use Rattle.server.proofs.Answering.{write-fails, write-granted}
 use Rattle.server.proofs.writing.serve_control.Statement.{statement}
 use Rattle.server.proofs.writing.serve_control.Tie as tie
 
-shared-slice-read-low16 : tie.Need-shared-slice-read-low16
-shared-slice-read-low16 c = search needs
-
-low16-requires : tie.Need-low16-requires
-low16-requires c κs = search needs
-
-there-requires : tie.Need-there-requires
-there-requires c κs = search needs
-
-reached-requires : tie.Need-reached-requires
-reached-requires c κs = search needs
-
-check-control-requires : tie.Need-check-control-requires
-check-control-requires c κs = search needs
-
-enum-told : tie.Need-enum-told
-enum-told c = search needs
-
-send-result-requires : tie.Need-send-result-requires
-send-result-requires c κs = search needs
-
-same-length : tie.Need-same-length
-same-length c = search needs
-
--- the buffer has room, and the shelf is 548 words
-sizes : (c : tie.After-low16)
-    → let a = c .before .before .before .before .before .args in
-    (1028 ≤ length (a .out .now)) × (length (a .words .now) ≡ 548)
+-- the buffer has room, and the words are as many as a shelf has
+sizes : (c : tie.After-check-control)
+    → let a = c .before .before .before .before .before .before .args in
+    (leastBuffer ≤ length (a .out .now)) × (length (a .words .now) ≡ shelfWords)
 sizes c = (omega arith, omega arith)
-
--- the result is the definition's, on this shelf
-result-is : (c : tie.After-check-control)
-    → let a = c .before .before .before .before .before .before .before .before .before .before .args in
-    c .check-control .result ≡ controlResult (a .words .now) (a .source) (a .expected) (a .phy) (a .operation)
-result-is c =
-    let reach = c .before in
-    let exist = reach .before .before in
-    let counted = exist .before .before in
-    let a = counted .before .before .before .before .before .args in
-    rw (
-      reach .reached .ensures,
-      exist .there .ensures,
-      counted .low16 .ensures,
-      changes-read (a .words .now),
-    ) at (c .check-control .ensures)
 
 returns : tie.Need-returns
 returns c =
     let sent = c .before .before in
     let failed = sent .before .before in
     let checked = failed .before in
-    let a = checked .before .before .before .before .before .before .before .before .before .before .args in
-    rw (← result-is checked, not-accepted (checked .check-control .result) (failed .match .keys2))
-    (sent-all (a .out .now) _ (sizes (checked .before .before .before .before .before) .0) (sent .send-result .ensures), sym (laid-same (a .words .now) (sizes (checked .before .before .before .before .before) .1)))
-
-control-requires : tie.Need-control-requires
-control-requires c κs = search needs
-
-send-result-requires-2 : tie.Need-send-result-requires-2
-send-result-requires-2 c κs = search needs
-
-same-length-2 : tie.Need-same-length-2
-same-length-2 c = search needs
+    let a = checked .before .before .before .before .before .before .args in
+    write-fails (a .words .now) (a .source) (PhyControl (a .expected) (a .phy) (a .operation)) (a .function)
+    (rw (checked .before .grounds .ensures) at (checked .check-control .ensures))
+    (a .out .now)
+    (sizes checked .0)
+    (carriedOut (shelfOf (a .words .now)) (a .phy) (controlled (a .operation) (phyAt (shelfOf (a .words .now)) (a .phy))))
+    (sizes checked .1)
+    (failed .match .keys2)
+    (sent .send-result .ensures)
 
 returns-2 : tie.Need-returns-2
 unfolding respond
@@ -84,24 +44,18 @@ returns-2 c =
     let stored = sent .before .before in
     let granted = stored .before .before in
     let checked = granted .before .before in
-    let a = checked .before .before .before .before .before .before .before .before .before .before .args in
-    rw (← result-is checked, granted .enum-told .given .1)
-    (sent-all (a .out .now) _ (sizes (checked .before .before .before .before .before) .0) (sent .send-result2 .ensures), stored .control .ensures)
+    let a = checked .before .before .before .before .before .before .args in
+    write-granted (a .words .now) (a .source) (PhyControl (a .expected) (a .phy) (a .operation)) (a .function)
+    (rw (checked .before .grounds .ensures) at (checked .check-control .ensures))
+    (a .out .now)
+    (sizes checked .0)
+    (carriedOut (shelfOf (a .words .now)) (a .phy) (controlled (a .operation) (phyAt (shelfOf (a .words .now)) (a .phy))))
+    (granted .enum-told .given .1)
+    refl
+    (sent .send-result2 .ensures)
+    (stored .control .ensures)
 
 pub serve-control-spec : {M : Type 1} → statement M
 serve-control-spec =
     tie.close
-    (tie.spec
-    shared-slice-read-low16
-    low16-requires
-    there-requires
-    reached-requires
-    check-control-requires
-    enum-told
-    send-result-requires
-    same-length
-    returns
-    control-requires
-    send-result-requires-2
-    same-length-2
-    returns-2)
+    (tie.spec (search needs) (search needs) (search needs) (search needs) (search needs) returns (search needs) (search needs) (search needs) returns-2)
