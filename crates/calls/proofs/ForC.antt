@@ -5,6 +5,7 @@ use Prim.Native.Nat.{ℕ, _≤_}
 use mathlib.Core.Path.{_≡_, subst⁻¹}
 use lib.Dec.{T}
 use lib.ListN.{length}
+use Rattle.words.specs.Sizes.{shelfWords}
 use Rattle.words.specs.Words.{shelfOf}
 use Rattle.calls.specs.Operations.{lentBefore, startOf}
 use Rattle.calls.specs.Host.{smpRefused, smpRefusal, HostCall, HostStart, hostSeen, hostStarted}
@@ -16,7 +17,7 @@ use Rattle.calls.proofs.Joined.{call-goes, call-refused, start-goes, st
 abbrev Some : ℕ → Type 0
 Some told = T (smpRefused told) → 1 ≤ smpRefusal told
 
-pub c-refused : (call : HostCall) → let c = hostSeen call in length (c .before) ≡ 548
+pub c-refused : (call : HostCall) → let c = hostSeen call in length (c .before) ≡ shelfWords
     → T (smpRefused (c .told)) → (1 ≤ smpRefusal (c .told)) × (c .after ≡ c .before) × (c .buffer ≡ lentBefore (c .asked))
 c-refused call long set =
     let some : 1 ≤ smpRefusal (hostSeen call .told) =

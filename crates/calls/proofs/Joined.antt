@@ -2,9 +2,9 @@
 -- the answers and the lent buffers that it leaves. These are the statements to cite. Each is of all that can be linked (`Linked`), and of
 -- calls and starts as values, of which nothing is known but that the promises allow them.
 --
--- Nothing is asked of them but what the types say, since the numbers here have no width: a shelf's memory is 548 words of 32 bits
--- (`Memory`; where their number is enough, `length .. ≡ 548`), a frame is bytes and an amount has 32 bits (`AllFit`, `BytesFit`), a start
--- is given 32 rows of 32 bits and 8 bytes (`StartFits`). `Widths` has these from the toolchain's own types. Assumes nothing.
+-- Nothing is asked of them but what the types say, since the numbers here have no width: a shelf's memory is `shelfWords` words of 32 bits
+-- (`Memory`; where their number is enough, `length .. ≡ shelfWords`), a frame is bytes and an amount has 32 bits (`AllFit`, `BytesFit`), a
+-- start is given 32 rows of 32 bits and 8 bytes (`StartFits`). `Widths` has these from the toolchain's own types. Assumes nothing.
 use Prim.Native.Nat.{ℕ, _≤_}
 use mathlib.Core.Path.{_≡_, refl, ap₂, subst}
 use mathlib.Core.List.{List, [], _∷_, map}
@@ -19,6 +19,7 @@ use Rattle.model.proofs.Demands.Writes.{ControlPasses, ConfigurePasses}
 use Rattle.model.proofs.Laws.Lowest.{Gives}
 use Rattle.model.proofs.Laws.Places.{All}
 use Rattle.words.specs.Memory.{Memory}
+use Rattle.words.specs.Sizes.{shelfWords}
 use Rattle.words.specs.Words.{shelfOf}
 use Rattle.calls.specs.Operations.{lentBefore, refusals, firstRefusal, Given, startOf, startRefusalsOf}
 use Rattle.calls.specs.Runs.{Goes, Starts, RunsAs, codedTold, RunFrom, operations, lastWords, got}
@@ -43,7 +44,7 @@ module _ (linked : Linked) where
   -- ---- One call
 
   -- It goes as the model does on the shelf that the words stand for: words, answer and lent buffer. So does a start.
-  pub call-goes : (call : Call) → let c = seen call in length (c .before) ≡ 548 → Goes coded (shelfOf (c .before)) c
+  pub call-goes : (call : Call) → let c = seen call in length (c .before) ≡ shelfWords → Goes coded (shelfOf (c .before)) c
   call-goes call = follows linked .goes call
 
   pub start-goes : (x : Start) → Starts coded (started x)
@@ -51,10 +52,10 @@ module _ (linked : Linked) where
 
   -- Two calls that are handed the same words and asked the same are seen the same: no word, no answer and no byte of the buffer depends on
   -- where memory lies, nor on lifetimes. To a start that is taken, what the memory held before does not matter either.
-  pub call-same : (one other : Call) → let c = seen one in let d = seen other in length (c .before) ≡ 548
+  pub call-same : (one other : Call) → let c = seen one in let d = seen other in length (c .before) ≡ shelfWords
       → c .before ≡ d .before → c .asked ≡ d .asked → c ≡ d
   call-same one other long same =
-      goes-same coded (seen one) (seen other) (call-goes one long) (call-goes other (subst (λ ws. length ws ≡ 548) same long)) same
+      goes-same coded (seen one) (seen other) (call-goes one long) (call-goes other (subst (λ ws. length ws ≡ shelfWords) same long)) same
 
   pub start-same : (one other : Start) → let x = started one in let y = started other in x .asked ≡ y .asked
       → (x .told ≡ y .told) × (refusal (x .told) ≡ 0 → x .after ≡ y .after)
@@ -65,7 +66,7 @@ module _ (linked : Linked) where
       )
 
   -- "The lowest number that applies is given."
-  pub call-refusal : (call : Call) → let c = seen call in length (c .before) ≡ 548
+  pub call-refusal : (call : Call) → let c = seen call in length (c .before) ≡ shelfWords
       → Gives (refusals (shelfOf (c .before)) (c .asked)) (firstRefusal (c .asked)) (refusal (c .told))
   call-refusal call long = lowest-told coded (seen call) (call-goes call long) refusal (follows linked .reads)
 
@@ -73,7 +74,7 @@ module _ (linked : Linked) where
   start-refusal x = start-lowest coded refusal (follows linked .reads-start) (started x) (start-goes x)
 
   -- "The answer holds the number and nothing else; state and buffer stay. A refused start gives no device."
-  pub call-refused : (call : Call) → let c = seen call in length (c .before) ≡ 548
+  pub call-refused : (call : Call) → let c = seen call in length (c .before) ≡ shelfWords
       → 1 ≤ refusal (c .told) → (c .after ≡ c .before) × (c .buffer ≡ lentBefore (c .asked))
   call-refused call long = refusal-stays coded (seen call) (call-goes call long) refusal (follows linked .reads) long
 
@@ -84,7 +85,7 @@ module _ (linked : Linked) where
   module _ (call : Call) (g : ℕ) (frame out : List ℕ) (asks : seen call .asked ≡ Ask g frame out)
       (answered : refusal (seen call .told) ≡ 0) where
     -- "A failed response is 41h, the function, the result, 00h. The buffer past any response is unchanged", and so is every word.
-    pub call-failed : let c = seen call in length (c .before) ≡ 548
+    pub call-failed : let c = seen call in length (c .before) ≡ shelfWords
         → (code : ℕ) → byte (c .buffer) 2 ≡ code → 1 ≤ code → Fails coded frame out code c
     call-failed long =
         fails coded (seen call) (call-goes call long) refusal (follows linked .reads) g frame out asks answered long

@@ -11,15 +11,16 @@ use Rattle.model.specs.Runs.{Operation, Ask, Event, LinkChange, ReducedFunction
 use Rattle.model.specs.Runs.{next, after, Told, told, answers}
 use Rattle.model.proofs.Laws.Places.{All}
 use Rattle.words.specs.Memory.{Memory}
+use Rattle.words.specs.Sizes.{shelfWords}
 use Rattle.words.specs.Words.{shelfOf}
 use Rattle.calls.specs.Operations.{Said, said, bufferAfter, gets}
 use Rattle.calls.specs.Runs.{Asks, Goes, RunsAs, codedTold, RunFrom, operations, lastWords, gotOf, got}
 use Rattle.calls.proofs.OneCall.{stand, leaves-memory}
 
 module _ {A : Type 0} (coded : Said → A) where
-  -- what the promise of a call gives, where it is handed 548 words
+  -- what the promise of a call gives, where it is handed the words of a shelf
   abbrev pub Go : Asks A → Type 0
-  Go c = length (c .before) ≡ 548 → Goes coded (shelfOf (c .before)) c
+  Go c = length (c .before) ≡ shelfWords → Goes coded (shelfOf (c .before)) c
 
   -- the run, call by call; and the words that it leaves stand for the model's last shelf
   pub record Ends (ws : List ℕ) (run : List (Asks A)) : Type 0 where

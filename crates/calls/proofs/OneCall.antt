@@ -19,6 +19,7 @@ use Rattle.model.proofs.Demands.Results.{Failed, NotRefused, failed-result}
 use Rattle.model.proofs.Demands.Writes.{ControlPasses, ConfigurePasses, FullOrNone, placed-control-write, placed-configure-write}
 use Rattle.model.proofs.Laws.Lowest.{Gives, row-gives}
 use Rattle.words.specs.Memory.{Memory}
+use Rattle.words.specs.Sizes.{shelfWords}
 use Rattle.words.specs.Words.{shelfOf, laidOver}
 use Rattle.words.proofs.Laying.{laid-same}
 use Rattle.words.proofs.Lens.{stands-fit}
@@ -73,7 +74,7 @@ module _ {A : Type 0} (coded : Said → A) where
 
 module _ {A : Type 0} (coded : Said → A) (c : Asks A) (goes : Goes coded (shelfOf (c .before)) c) where
   -- where the shelf stays, every word does
-  stays : length (c .before) ≡ 548 → next (shelfOf (c .before)) (c .asked) ≡ shelfOf (c .before) → c .after ≡ c .before
+  stays : length (c .before) ≡ shelfWords → next (shelfOf (c .before)) (c .asked) ≡ shelfOf (c .before) → c .after ≡ c .before
   stays long same = goes .words ∙ ap (laidOver (c .before)) same ∙ laid-same (c .before) long
 
   -- the words that are left stand for the next shelf, and are such words again
@@ -93,7 +94,8 @@ module _ {A : Type 0} (coded : Said → A) (c : Asks A) (goes : Goes coded (shel
         subst⁻¹ (Gives (refusals (shelfOf (c .before)) (c .asked)) (firstRefusal (c .asked))) number-told
         (said-gives (shelfOf (c .before)) (c .asked))
 
-    pub refusal-stays : length (c .before) ≡ 548 → 1 ≤ refusal (c .told) → (c .after ≡ c .before) × (c .buffer ≡ lentBefore (c .asked))
+    pub refusal-stays : length (c .before) ≡ shelfWords → 1 ≤ refusal (c .told)
+        → (c .after ≡ c .before) × (c .buffer ≡ lentBefore (c .asked))
     refusal-stays long refused =
         let same = said-stays (shelfOf (c .before)) (c .asked) (subst (λ n. 1 ≤ n) number-told refused) in
         (stays long (same .0), goes .buffer ∙ same .1)
@@ -117,7 +119,7 @@ module _ {A : Type 0} (coded : Said → A) (c : Asks A) (goes : Goes coded (shel
       unfolding said
       not-refused = sym (ap (λ o. saidNumber (said s o)) asks) ∙ sym number-told ∙ answered
 
-      pub fails : length (c .before) ≡ 548 → (code : ℕ) → byte (c .buffer) 2 ≡ code → 1 ≤ code → Fails coded frame out code c
+      pub fails : length (c .before) ≡ shelfWords → (code : ℕ) → byte (c .buffer) 2 ≡ code → 1 ≤ code → Fails coded frame out code c
       fails long code drawn some =
           let (words, told, buffer) = asks-goes in
           let failed : Failed s g frame out code =

@@ -1,4 +1,4 @@
--- The widths that `Joined` asks for are what the toolchain's own types say: `u32`, `[u32; 548]`, `[u32; 32]`, `[u8; 8]` and `[u8]`. There
+-- The widths that `Joined` asks for are what the toolchain's own types say: `u32`, `[u32; WORDS]`, `[u32; 32]`, `[u8; 8]` and `[u8]`. There
 -- `Is T x vs` says that vs are machine values of x at the type T. It is what owning a value says of it, and so it holds of what is handed
 -- in and of what stands behind a reference (`shows` of `denote.Laws`). Assumes nothing.
 use Prim.Native.Nat.{ℕ, _^_, _≤_, _<_}
@@ -15,6 +15,7 @@ use borrow.Table.Referent.{rtF, fInt}
 use Rattle.model.specs.Fits.{BytesFit, StartFits}
 use Rattle.model.proofs.Laws.Places.{All, all-each}
 use Rattle.words.specs.Memory.{Memory}
+use Rattle.words.specs.Sizes.{shelfWords}
 
 -- an unsigned integer of this width, and n of them
 abbrev Int : Width → RattleType
@@ -39,9 +40,9 @@ pub amount-width : (n : ℕ) (vs : List Val) → Is (Int w32) n vs → n ≤ 0xF
 amount-width n vs is = omega (arith, is .1)
 
 -- the words of a shelf
-pub memory-width : (ws : List ℕ) (vs : List Val) → Is (Ints w32 548) ws vs → Memory ws
+pub memory-width : (ws : List ℕ) (vs : List Val) → Is (Ints w32 shelfWords) ws vs → Memory ws
 memory-width ws vs is =
-    record { size = is .1 .0 .1; words = λ i. omega (arith, below-each w32 (omega arith) 548 ws vs is i) }
+    record { size = is .1 .0 .1; words = λ i. omega (arith, below-each w32 (omega arith) shelfWords ws vs is i) }
 
 -- the bytes of a frame: a slice holds what an array of its length holds
 pub frame-width : (frame : List ℕ) (vs : List Val) → Is (Ints w8 (length frame)) frame vs → BytesFit frame

@@ -1,4 +1,4 @@
-// The whole server for a C firmware that keeps the shelf in its own memory, as 548 words (crate `words`).
+// The whole server for a C firmware that keeps the shelf in its own memory, as words (crate `words`).
 //
 // Each function calls the server's (crate `server`) and codes the answer as C's number, by one coding (specs/Told.antt).
 // C's side of the interface is firmware/kinubarsil.h. Each promise says all of what the call comes to: the number, the

@@ -5,16 +5,10 @@ use Rattle.host.specs.Told.{takenTold}
 use Rattle.host.proofs.smp_link_change.Statement.{statement}
 use Rattle.host.proofs.smp_link_change.Tie as tie
 
-link-change-requires : tie.Need-link-change-requires
-link-change-requires c κs = search needs
-
-taken-told-requires : tie.Need-taken-told-requires
-taken-told-requires c κs = search needs
-
 returns : tie.Need-returns
 returns c =
     let served = c .before in
     (c .taken-told .ensures ∙ ap takenTold (served .link-change .ensures .0), served .link-change .ensures .1)
 
 pub smp-link-change-spec : {M : Type 1} → statement M
-smp-link-change-spec = tie.close (tie.spec link-change-requires taken-told-requires returns)
+smp-link-change-spec = tie.close (tie.spec (search needs) (search needs) returns)

@@ -6,9 +6,6 @@ use Rattle.host.proofs.Coding.{reach-fits}
 use Rattle.host.proofs.smp_reach.Statement.{statement}
 use Rattle.host.proofs.smp_reach.Tie as tie
 
-reach-query-requires : tie.Need-reach-query-requires
-reach-query-requires c κs = search needs
-
 reach-told-requires : tie.Need-reach-told-requires
 reach-told-requires c κs = rw (c .reach-query .ensures) (reach-fits _ _)
 
@@ -16,4 +13,4 @@ returns : tie.Need-returns
 returns c = c .reach-told .ensures ∙ ap reachTold (c .before .reach-query .ensures)
 
 pub smp-reach-spec : {M : Type 1} → statement M
-smp-reach-spec = tie.close (tie.spec reach-query-requires reach-told-requires returns)
+smp-reach-spec = tie.close (tie.spec (search needs) reach-told-requires returns)

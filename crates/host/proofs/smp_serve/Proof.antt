@@ -6,15 +6,9 @@ use Rattle.host.proofs.Coding.{answer-fits}
 use Rattle.host.proofs.smp_serve.Statement.{statement}
 use Rattle.host.proofs.smp_serve.Tie as tie
 
-serve-requires : tie.Need-serve-requires
-serve-requires c κs = search needs
-
 answer-told-requires : tie.Need-answer-told-requires
 answer-told-requires c κs =
     rw (c .before .before .serve .ensures .0) (answer-fits _ _ _ _)
-
-same-length : tie.Need-same-length
-same-length c = search needs
 
 returns : tie.Need-returns
 returns c =
@@ -22,4 +16,4 @@ returns c =
     (c .answer-told .ensures ∙ ap answerTold (told .0), told .1)
 
 pub smp-serve-spec : {M : Type 1} → statement M
-smp-serve-spec = tie.close (tie.spec serve-requires answer-told-requires same-length returns)
+smp-serve-spec = tie.close (tie.spec (search needs) answer-told-requires (search needs) returns)

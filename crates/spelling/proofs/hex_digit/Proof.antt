@@ -6,12 +6,6 @@ use Rattle.spelling.specs.Spelling.{hexDigit}
 use Rattle.spelling.proofs.hex_digit.Statement.{statement}
 use Rattle.spelling.proofs.hex_digit.Tie as tie
 
-add-result : tie.Need-add-result
-add-result c = search needs
-
-add-result-2 : tie.Need-add-result-2
-add-result-2 c = search needs
-
 returns : tie.Need-returns
 unfolding hexDigit
 returns c = simp (le-leb (c .before .args .value) 9 (omega arith))
@@ -29,4 +23,4 @@ returns-3 c =
     simp (lt-leb v 9 (omega arith), lt-leb v 15 (omega arith))
 
 pub hex-digit-spec : {M : Type 1} → statement M
-hex-digit-spec = tie.close (tie.spec add-result add-result-2 returns returns-2 returns-3)
+hex-digit-spec = tie.close (tie.spec (search needs) (search needs) returns returns-2 returns-3)

@@ -3,14 +3,8 @@ use borrow.Author.Needs.{needs}
 use Rattle.spelling.proofs.house_text.Statement.{statement}
 use Rattle.spelling.proofs.house_text.Tie as tie
 
-house-number-requires : tie.Need-house-number-requires
-house-number-requires c κs = search needs
-
-hex-digit-requires : tie.Need-hex-digit-requires
-hex-digit-requires c κs = search needs
-
 returns : tie.Need-returns
 returns c = rw (c .hex-digit .ensures, c .before .house-number .ensures)
 
 pub house-text-spec : {M : Type 1} → statement M
-house-text-spec = tie.close (tie.spec house-number-requires hex-digit-requires returns)
+house-text-spec = tie.close (tie.spec (search needs) (search needs) returns)

@@ -4,12 +4,9 @@ use Rattle.model.specs.Request.{badFrame}
 use Rattle.gate.proofs.frame.bad_frame.Statement.{statement}
 use Rattle.gate.proofs.frame.bad_frame.Tie as tie
 
-byte-at-requires : tie.Need-byte-at-requires
-byte-at-requires c κs = search needs
-
 returns : tie.Need-returns
 unfolding badFrame
 returns c = rw (c .byte-at .ensures)
 
 pub bad-frame-spec : {M : Type 1} → statement M
-bad-frame-spec = tie.close (tie.spec byte-at-requires returns)
+bad-frame-spec = tie.close (tie.spec (search needs) returns)

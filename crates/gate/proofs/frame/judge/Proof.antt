@@ -8,18 +8,9 @@ use Rattle.model.specs.Request.{badFrame, functionOf, known, judge}
 use Rattle.gate.proofs.frame.judge.Statement.{statement}
 use Rattle.gate.proofs.frame.judge.Tie as tie
 
-bad-frame-requires : tie.Need-bad-frame-requires
-bad-frame-requires c κs = search needs
-
 returns : tie.Need-returns
 unfolding judge
 returns c = rw (sym (c .before .bad-frame .ensures) ∙ c .if1 .taken)
-
-byte-at-requires : tie.Need-byte-at-requires
-byte-at-requires c κs = search needs
-
-known-requires : tie.Need-known-requires
-known-requires c κs = search needs
 
 -- what the tests on the way have said
 good : (c : tie.Else1) → badFrame (now (c .before .before .before .args .frame)) ≡ false
@@ -34,9 +25,6 @@ returns-2 : tie.Need-returns-2
 unfolding judge
 returns-2 c = rw (good (c .before .before .before), sym (known-is (c .before)) ∙ not-true _ (c .if2 .taken))
 
-length-right-requires : tie.Need-length-right-requires
-length-right-requires c κs = search needs
-
 returns-3 : tie.Need-returns-3
 unfolding judge
 returns-3 c =
@@ -45,9 +33,6 @@ returns-3 c =
       sym (known-is (c .before .before .before)) ∙ not-false _ (c .before .before .if2 .left),
       sym (c .before .length-right .ensures) ∙ not-true _ (c .if3 .taken),
     )
-
-asked-requires : tie.Need-asked-requires
-asked-requires c κs = search needs
 
 returns-4 : tie.Need-returns-4
 unfolding judge
@@ -61,14 +46,4 @@ returns-4 c =
 
 pub judge-spec : {M : Type 1} → statement M
 judge-spec =
-    tie.close
-    (tie.spec
-    bad-frame-requires
-    returns
-    byte-at-requires
-    known-requires
-    returns-2
-    length-right-requires
-    returns-3
-    asked-requires
-    returns-4)
+    tie.close (tie.spec (search needs) returns (search needs) (search needs) returns-2 (search needs) returns-3 (search needs) returns-4)

@@ -10,33 +10,6 @@ use Rattle.model.specs.Request.{functionOf, lengthRight}
 use Rattle.gate.proofs.frame.length_right.Statement.{statement}
 use Rattle.gate.proofs.frame.length_right.Tie as tie
 
-byte-at-requires : tie.Need-byte-at-requires
-byte-at-requires c κs = search needs
-
-byte-at-requires-2 : tie.Need-byte-at-requires-2
-byte-at-requires-2 c κs = search needs
-
-cast-length : tie.Need-cast-length
-cast-length c = search needs
-
-byte-at-requires-3 : tie.Need-byte-at-requires-3
-byte-at-requires-3 c κs = search needs
-
-cast-d : tie.Need-cast-d
-cast-d c = search needs
-
-mul-result : tie.Need-mul-result
-mul-result c = search needs
-
-add-result : tie.Need-add-result
-add-result c = search needs
-
-mul-result-2 : tie.Need-mul-result-2
-mul-result-2 c = search needs
-
-add-result-2 : tie.Need-add-result-2
-add-result-2 c = search needs
-
 -- the function of the frame, in the arm of a key
 function-is : (c : tie.After-byte-at3) {key : ℕ} → c .before .before .byte-at .result ≡ key
     → functionOf (now (c .before .before .before .before .args .frame)) ≡ key
@@ -95,20 +68,5 @@ pub length-right-spec : {M : Type 1} → statement M
 length-right-spec =
     tie.close
     (tie.spec
-    byte-at-requires
-    byte-at-requires-2
-    cast-length
-    byte-at-requires-3
-    cast-d
-    mul-result
-    add-result
-    mul-result-2
-    add-result-2
-    returns
-    returns-2
-    returns-3
-    returns-4
-    returns-5
-    returns-6
-    returns-7
-    returns-8)
+    (search needs) (search needs) (search needs) (search needs) (search needs) (search needs) (search needs) (search needs)
+    (search needs) returns returns-2 returns-3 returns-4 returns-5 returns-6 returns-7 returns-8)

@@ -10,12 +10,9 @@ returns : tie.Need-returns
 unfolding rowReaches
 returns c = simp (lt-leb (c .before .args .group) 31 (omega arith))
 
-shr-result : tie.Need-shr-result
-shr-result c = search needs
-
 returns-2 : tie.Need-returns-2
 unfolding rowReaches
 returns-2 c = simp (le-leb (c .before .args .group) 31 (omega arith))
 
 pub smp-row-reaches-spec : {M : Type 1} → statement M
-smp-row-reaches-spec = tie.close (tie.spec returns shr-result returns-2)
+smp-row-reaches-spec = tie.close (tie.spec returns (search needs) returns-2)

@@ -4,33 +4,13 @@ use native.Mathlib.Omega.{arith}
 use Rattle.host.proofs.told.answer_told.Statement.{statement}
 use Rattle.host.proofs.told.answer_told.Tie as tie
 
-enum-known-answer : tie.Need-enum-known-answer
-enum-known-answer c = search needs
-
 cast-result : tie.Need-cast-result
 cast-result c =
     let fits = rw (c .before .answer .given .1) at (c .before .before .before .pre) in
     omega (arith, fits)
 
-enum-known-answer-2 : tie.Need-enum-known-answer-2
-enum-known-answer-2 c = search needs
-
-refused-told-requires : tie.Need-refused-told-requires
-refused-told-requires c κs = search needs
-
-returns : tie.Need-returns
-returns c = search needs
-
 returns-2 : tie.Need-returns-2
 returns-2 c = rw (c .before .before .answer2 .given .1) (c .refused-told .ensures)
 
 pub answer-told-spec : {M : Type 1} → statement M
-answer-told-spec =
-    tie.close
-    (tie.spec
-    enum-known-answer
-    cast-result
-    enum-known-answer-2
-    refused-told-requires
-    returns
-    returns-2)
+answer-told-spec = tie.close (tie.spec (search needs) cast-result (search needs) (search needs) (λ c. search needs) returns-2)

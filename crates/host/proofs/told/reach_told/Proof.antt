@@ -5,9 +5,6 @@ use mathlib.Core.Path.{refl}
 use Rattle.host.proofs.told.reach_told.Statement.{statement}
 use Rattle.host.proofs.told.reach_told.Tie as tie
 
-enum-known-reach : tie.Need-enum-known-reach
-enum-known-reach c = search needs
-
 mul-result : tie.Need-mul-result
 mul-result c =
     let fits = rw (c .before .reach .given .1) at (c .before .before .before .pre) in
@@ -18,12 +15,6 @@ add-result c =
     let fits = rw (c .before .reach .given .1) at (c .before .before .before .pre) in
     omega (arith, fits)
 
-enum-known-reach-2 : tie.Need-enum-known-reach-2
-enum-known-reach-2 c = search needs
-
-refused-told-requires : tie.Need-refused-told-requires
-refused-told-requires c κs = search needs
-
 returns : tie.Need-returns
 returns c = rw (c .before .reach .given .1) refl
 
@@ -31,13 +22,4 @@ returns-2 : tie.Need-returns-2
 returns-2 c = rw (c .before .before .reach2 .given .1) (c .refused-told .ensures)
 
 pub reach-told-spec : {M : Type 1} → statement M
-reach-told-spec =
-    tie.close
-    (tie.spec
-    enum-known-reach
-    mul-result
-    add-result
-    enum-known-reach-2
-    refused-told-requires
-    returns
-    returns-2)
+reach-told-spec = tie.close (tie.spec (search needs) mul-result add-result (search needs) (search needs) returns returns-2)

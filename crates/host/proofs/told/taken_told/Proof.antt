@@ -3,21 +3,8 @@ use borrow.Author.Needs.{needs}
 use Rattle.host.proofs.told.taken_told.Statement.{statement}
 use Rattle.host.proofs.told.taken_told.Tie as tie
 
-enum-told : tie.Need-enum-told
-enum-told c = search needs
-
-enum-known-taken : tie.Need-enum-known-taken
-enum-known-taken c = search needs
-
-refused-told-requires : tie.Need-refused-told-requires
-refused-told-requires c κs = search needs
-
-returns : tie.Need-returns
-returns c = search needs
-
 returns-2 : tie.Need-returns-2
 returns-2 c = rw (c .before .before .taken .given .1) (c .refused-told .ensures)
 
 pub taken-told-spec : {M : Type 1} → statement M
-taken-told-spec =
-    tie.close (tie.spec enum-told enum-known-taken refused-told-requires returns returns-2)
+taken-told-spec = tie.close (tie.spec (search needs) (search needs) (search needs) (λ c. search needs) returns-2)

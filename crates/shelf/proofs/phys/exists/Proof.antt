@@ -3,11 +3,8 @@ use borrow.Author.Needs.{needs}
 use Rattle.shelf.proofs.phys.exists.Statement.{statement}
 use Rattle.shelf.proofs.phys.exists.Tie as tie
 
-phy-number-requires : tie.Need-phy-number-requires
-phy-number-requires c κs = search needs
-
 returns : tie.Need-returns
 returns c = rw (c .phy-number .ensures)
 
 pub exists-spec : {M : Type 1} → statement M
-exists-spec = tie.close (tie.spec phy-number-requires returns)
+exists-spec = tie.close (tie.spec (search needs) returns)

@@ -13,12 +13,6 @@ use Rattle.shelf.proofs.reach.phy_bit.Tie as tie
 returns : tie.Need-returns
 returns c = rw (le-ltb (c .before .args .p) 24 (omega arith))
 
-smp-row-reaches-requires : tie.Need-smp-row-reaches-requires
-smp-row-reaches-requires c κs = search needs
-
-shl-result : tie.Need-shl-result
-shl-result c = search needs
-
 returns-2 : tie.Need-returns-2
 returns-2 c =
     let p = c .before .before .before .args .p in
@@ -31,4 +25,4 @@ returns-3 c =
     rw (lt-ltb p 24 (omega arith), sym (c .before .smp-row-reaches .ensures) ∙ c .if2 .left)
 
 pub phy-bit-spec : {M : Type 1} → statement M
-phy-bit-spec = tie.close (tie.spec returns smp-row-reaches-requires shl-result returns-2 returns-3)
+phy-bit-spec = tie.close (tie.spec returns (search needs) (search needs) returns-2 returns-3)

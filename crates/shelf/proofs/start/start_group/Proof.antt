@@ -8,12 +8,6 @@ use lib.ListN.{List·getD-eq-default}
 use Rattle.shelf.proofs.start.start_group.Statement.{statement}
 use Rattle.shelf.proofs.start.start_group.Tie as tie
 
-mul-result : tie.Need-mul-result
-mul-result c = search needs
-
-array-read-result : tie.Need-array-read-result
-array-read-result c = search needs
-
 returns : tie.Need-returns
 returns c = simp (lt-ltb _ _ (c .before .if1 .taken))
 
@@ -26,4 +20,4 @@ returns-3 : tie.Need-returns-3
 returns-3 c = simp (le-ltb _ _ (c .if1 .left))
 
 pub start-group-spec : {M : Type 1} → statement M
-start-group-spec = tie.close (tie.spec mul-result array-read-result returns returns-2 returns-3)
+start-group-spec = tie.close (tie.spec (search needs) (search needs) returns returns-2 returns-3)

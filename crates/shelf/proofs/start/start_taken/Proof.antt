@@ -24,9 +24,6 @@ returns-2 : tie.Need-returns-2
 unfolding startTaken
 returns-2 c = simp (c .before .before .if1 .left, ← c .before .groups-fit .ensures, c .if2 .taken)
 
-legal-table-requires : tie.Need-legal-table-requires
-legal-table-requires c κs = search needs
-
 -- past the first two tests the third is left
 passed : (c : tie.After-legal-table)
     → let a = c .before .before .before .before .args in
@@ -48,6 +45,4 @@ returns-4 : tie.Need-returns-4
 returns-4 c = rw (passed (c .before), not-false (c .before .legal-table .result) (c .if3 .left))
 
 pub start-taken-spec : {M : Type 1} → statement M
-start-taken-spec =
-    tie.close
-    (tie.spec returns groups-fit-requires returns-2 legal-table-requires returns-3 returns-4)
+start-taken-spec = tie.close (tie.spec returns groups-fit-requires returns-2 (search needs) returns-3 returns-4)
