@@ -17,11 +17,4 @@ returns c =
     (c .lay-front .ensures ∙ rw (device .device-words .ensures))
 
 pub lay-fresh-spec : {M : Type 1} → statement M
-lay-fresh-spec =
-    tie.close
-    (tie.spec
-    (λ c κs. search needs)
-    (λ c κs. search needs)
-    (λ c κs. search needs)
-    (λ c κs. search needs)
-    returns)
+lay-fresh-spec = tie.close (tie.spec (search needs) (search needs) (search needs) (search needs) returns)

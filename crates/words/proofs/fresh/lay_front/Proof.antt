@@ -13,12 +13,4 @@ returns c =
     front-stored (a .words .now) (a .t2) (a .t3) (omega arith) (omega arith) (omega arith) (first .store .ensures) (second .store2 .ensures)
 
 pub lay-front-spec : {M : Type 1} → statement M
-lay-front-spec =
-    tie.close
-    (tie.spec
-    (λ c. search needs)
-    (λ c κs. search needs)
-    (λ c. search needs)
-    (λ c κs. search needs)
-    (λ c. search needs)
-    returns)
+lay-front-spec = tie.close (tie.spec (search needs) (search needs) (search needs) (search needs) (search needs) returns)
