@@ -1,11 +1,11 @@
 -- A proof that says `unfolding computes` may run every definition of document 01 on numbers: the names are listed here, once.
 use Prim.Native.Nat.{ℕ}
 use Rattle.model.specs.CrossedOut.{aboutPhy, linkResetOrDisable, crossedOut, remains}
-use Rattle.model.specs.Counting.{originate, counted, crosses, crossed}
+use Rattle.model.specs.Counting.{originate, counted, crosses}
 use Rattle.model.specs.Counting.{addError, eventOn, changeOn}
 use Rattle.model.specs.Reach.{reachSet, reachNumber, reachQuery}
 use Rattle.model.specs.Reply.{reportGeneral, reportManufacturer, reportPhyErrorLog, reportPhyEvent}
-use Rattle.model.specs.Reply.{deviceListed, phyListed, broadcasts, broadcastBytes, reportBroadcast, respond}
+use Rattle.model.specs.Reply.{deviceListed, phyListed, broadcasts, descriptors, reportBroadcast, reportPhyEventList, respond}
 use Rattle.model.specs.Reports.{amountTooLarge, eventTaken, event, linkChange, reducedFunctionality, sesNotice}
 use Rattle.model.specs.Request.{badFrame, known, lengthRight, asked, judge, allowed, firstUnsupported}
 use Rattle.model.specs.Results.{countRight, knownOperation, resultOf, decide}
@@ -14,6 +14,7 @@ use Rattle.model.specs.Server.{handle, served, lentAfter}
 use Rattle.model.specs.Shelf.{freshShelf, noShelf, startTaken, start}
 use Rattle.model.specs.ShelfW.{shelfW}
 use Rattle.model.specs.Sources.{counting, peak, supported}
+use Rattle.model.specs.Store.{store, entries, upTo, indexes, firstIndex, firstReturned, returned}
 use Rattle.model.specs.Tests.{allBelow, sumBelow, joinBelow}
 use Rattle.model.specs.Writes.{controlled, setMonitor, setMonitors, setOn, clearMonitor, anyPeak}
 use Rattle.model.specs.Writes.{clearOn, configured, doing, effect}
@@ -25,8 +26,12 @@ unfolding allBelow sumBelow joinBelow rowReaches symmetric legalTable reachSet r
 zones = 0
 
 unfoldable pub counts : ℕ
-unfolding counting peak supported originate counted crosses crossed addError eventOn changeOn
+unfolding counting peak supported originate counted crosses addError eventOn changeOn
 counts = 0
+
+unfoldable pub stores : ℕ
+unfolding store entries upTo indexes firstIndex firstReturned returned
+stores = 0
 
 unfoldable pub shelves : ℕ
 unfolding freshShelf noShelf startTaken start amountTooLarge eventTaken event linkChange reducedFunctionality sesNotice
@@ -37,7 +42,7 @@ unfolding badFrame known lengthRight asked judge allowed firstUnsupported countR
 requests = 0
 
 unfoldable pub replies : ℕ
-unfolding reportGeneral reportManufacturer reportPhyErrorLog reportPhyEvent deviceListed phyListed broadcasts broadcastBytes reportBroadcast respond
+unfolding reportGeneral reportManufacturer reportPhyErrorLog reportPhyEvent deviceListed phyListed broadcasts descriptors reportBroadcast reportPhyEventList respond
 replies = 0
 
 unfoldable pub writes : ℕ
@@ -49,5 +54,5 @@ unfolding next after told answers aboutPhy linkResetOrDisable crossedOut remains
 runs = 0
 
 unfoldable pub computes : ℕ
-unfolding zones counts shelves requests replies writes runs handle served lentAfter shelfW
+unfolding zones counts stores shelves requests replies writes runs handle served lentAfter shelfW
 computes = 0

@@ -11,6 +11,7 @@ pub mod Fits
 pub mod Frames
 pub mod Invariant
 pub mod ChangeCount
+pub mod Stored
 pub mod Outcomes
 -- demand 3: what a shelf looks like to a group, one operation, a crossed-out one, what remains of a run, the theorem, and what a reader
 -- will ask

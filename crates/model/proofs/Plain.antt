@@ -6,6 +6,7 @@ pub mod Shelf
 pub mod Reach
 pub mod Sources
 pub mod Counting
+pub mod Store
 pub mod Start
 pub mod Reports
 pub mod Request

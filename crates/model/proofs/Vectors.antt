@@ -8,6 +8,7 @@ use Rattle.model.specs.Vectors.CrossedOut.{crossed, stay, whole, rest}
 use Rattle.model.specs.Vectors.EasilyWrong.{easilyWrong1to4, easilyWrong5}
 use Rattle.model.specs.Vectors.Frames.{reads, controls, configures, ignored}
 use Rattle.model.specs.Vectors.Peaks.{peaks}
+use Rattle.model.specs.Vectors.Stored.{stored}
 use Rattle.model.specs.Vectors.Refusals.{refusals}
 use Rattle.model.specs.Vectors.Results.{results}
 use Rattle.model.specs.Vectors.Starts.{freshStarts, startsTaken}
@@ -75,6 +76,12 @@ pub peaks-hold : Holds peaks
 unfolding peaks computes
 peaks-hold =
     (refl, (refl, (refl, (refl, (refl, (refl, (refl, tt)))))))
+
+-- the list of stored peak events
+pub stored-hold : Holds stored
+unfolding stored computes
+stored-hold =
+    (refl, (refl, (refl, (refl, (refl, (refl, (refl, (refl, (refl, (refl, (refl, (refl, (refl, (refl, (refl, (refl, (refl, (refl, (refl, (refl, (refl, (refl, (refl, (refl, (refl, tt)))))))))))))))))))))))))
 
 -- demand 3's crossing-out
 pub crossed-hold : Fate true crossed

@@ -3,12 +3,11 @@ use Prim.Native.Nat.{ℕ, zero, suc, _+_, _-_, _%_, _^_, min, max}
 use mathlib.Core.Bool.{Bool, true, false, cond, _&&_}
 use mathlib.Core.List.{List, [], _∷_, map}
 use lib.Dec.{leb, ltb, eqb}
-use lib.ListN.{length, getD, set}
+use lib.ListN.{length, getD, set, replicate}
 use Rattle.model.specs.declared.Effect.{Effect}
 use Rattle.model.specs.declared.Monitor.{Monitor}
 use Rattle.model.specs.declared.Phy.{Phy}
-use Rattle.model.specs.declared.Shelf.{Shelf}
-use Rattle.model.specs.Shelf.{monitor, phyWith, put}
+use Rattle.model.specs.Shelf.{monitor, phyWith}
 use Rattle.model.specs.Sources.{peak}
 use Rattle.model.specs.Tests.{within}
 
@@ -27,22 +26,28 @@ originateTimes (suc n) count = originateTimes n (originate count)
 
 -- ---- What a write or a report does to the phy that it names
 
--- the phy afterwards, and whether Change is originated
-abbrev pub effectOf : Phy → Bool → Effect
-effectOf after change = record { phy = after; change = change }
+-- the phy afterwards, whether Change is originated, and its monitors as they stand when they are stored, with those that are marked
+abbrev pub effectOf : Phy → Bool → List Monitor → List Bool → Effect
+effectOf after change monitors stored = record { phy = after; change = change; monitors = monitors; stored = stored }
 
--- Change is not originated
+-- nothing is stored
+abbrev pub storesNone : Phy → Bool → Effect
+storesNone after change = effectOf after change (after .monitors) (replicate 4 false)
+
+-- .. and Change is not originated
 abbrev pub quiet : Phy → Effect
-quiet after = effectOf after false
+quiet after = storesNone after false
 
--- Carried out on the shelf, of phy p: "Change also moves the change count the same way."
-abbrev pub carriedOut : Shelf → ℕ → Effect → Shelf
-carriedOut s p e = put s p (e .phy) (originateIf (e .change) (s .changes))
+-- the marked ones of some monitors, in monitor order
+abbrev pub picked : List Bool → List Monitor → List Monitor
+picked [] ms = []
+picked (mark ∷ marks) [] = []
+picked (mark ∷ marks) (m ∷ ms) = cond mark (m ∷ picked marks ms) (picked marks ms)
 
 -- A phy that originates Change, left enabled or not.
 unfoldable pub changeOn : Bool → Phy → Effect
 changeOn enabled x =
-    effectOf (phyWith x enabled (x .errors) (x .monitors) (originate (x .change0)) (x .expander1) (x .expander2)) true
+    storesNone (phyWith x enabled (x .errors) (x .monitors) (originate (x .change0)) (x .expander1) (x .expander2)) true
 
 -- ---- An event report
 
@@ -69,13 +74,13 @@ counted source amount m =
 unfoldable pub crosses : Monitor → ℕ → Bool
 crosses before after = peak (before .source) && ltb (before .value) (before .threshold) && leb (before .threshold) after
 
--- those of a phy's monitors that do, in monitor order, each as the report leaves it
-unfoldable pub crossed : ℕ → ℕ → List Monitor → List Monitor
-crossed source amount [] = []
-crossed source amount (m ∷ ms) =
-    let after : Monitor = counted source amount m in
-    let others : List Monitor = crossed source amount ms in
-    cond (crosses m (after .value)) (after ∷ others) others
+-- which of a phy's monitors do
+abbrev pub crossings : ℕ → ℕ → List Monitor → List Bool
+crossings source amount monitors = map (λ m. crosses m (counted source amount m .value)) monitors
+
+-- those that do, in monitor order, each as the report leaves it
+abbrev pub crossed : ℕ → ℕ → List Monitor → List Monitor
+crossed source amount monitors = picked (crossings source amount monitors) (map (counted source amount) monitors)
 
 -- ".. originates Expander 1h, once per monitor"
 abbrev pub originateCrossings : ℕ → ℕ → List Monitor → ℕ → ℕ
@@ -88,13 +93,16 @@ addError source amount errors =
     (set errors (source - 1) (addSaturating (getD errors (source - 1) 0) amount))
     errors
 
--- An event report, on the phy that it names.
+-- An event report, on the phy that it names. #101: "Each origination of Expander 1h stores the monitor that crossed, in monitor order if
+-- several do, with its new value".
 unfoldable pub eventOn : ℕ → ℕ → Phy → Effect
 eventOn source amount x =
-    quiet
+    let after : List Monitor = map (counted source amount) (x .monitors) in
+    effectOf
     (phyWith x (x .enabled)
     (addError source amount (x .errors))
-    (map (counted source amount) (x .monitors))
+    after
     (x .change0)
     (originateCrossings source amount (x .monitors) (x .expander1))
     (x .expander2))
+    false after (crossings source amount (x .monitors))

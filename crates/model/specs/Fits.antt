@@ -5,13 +5,16 @@ use mathlib.Core.Path.{_≡_}
 use mathlib.Core.List.{List, [], _∷_}
 use lib.Dec.{T}
 use lib.ListN.{length}
+use Rattle.model.specs.declared.Entry.{Entry}
 use Rattle.model.specs.declared.Monitor.{Monitor}
 use Rattle.model.specs.declared.Phy.{Phy}
 use Rattle.model.specs.declared.Shelf.{Shelf}
+use Rattle.model.specs.declared.Store.{Store}
 use Rattle.model.specs.Bytes.{byte}
 use Rattle.model.specs.Reply.{errorAt, monitorAt}
 use Rattle.model.specs.Runs.{Operation, Ask, Event, LinkChange, ReducedFunctionality, Ses, QueryReach}
 use Rattle.model.specs.Shelf.{phyAt}
+use Rattle.model.specs.Store.{entryAt}
 use Rattle.model.specs.Zone.{row, legalTable}
 
 -- ---- A shelf
@@ -37,6 +40,17 @@ pub record PhyFits (x : Phy) : Type 0 where
   pub expander1 : x .expander1 ≤ 0xFFFF
   pub expander2 : x .expander2 ≤ 0xFFFF
 
+-- #101: an entry, and the 32 of a store
+pub record EntryFits (e : Entry) : Type 0 where
+  pub phy : e .phy ≤ 0xFF
+  pub monitor : MonitorFits (e .monitor)
+
+pub record StoreFits (k : Store) : Type 0 where
+  pub last : k .last ≤ 0xFFFF
+  pub count : k .count ≤ 0xFFFFFFFF
+  pub entries-size : length (k .entries) ≡ 32
+  pub entries : (i : ℕ) → EntryFits (entryAt k i)
+
 -- what the types of the record say: the sizes of its arrays, and the widths of its numbers
 pub record Fits (s : Shelf) : Type 0 where
   pub number : s .number ≤ 0xFFFFFFFF
@@ -49,6 +63,7 @@ pub record Fits (s : Shelf) : Type 0 where
   pub changes : s .changes ≤ 0xFFFF
   pub expander3 : s .expander3 ≤ 0xFFFF
   pub ses0 : s .ses0 ≤ 0xFFFF
+  pub store : StoreFits (s .store)
 
 -- of these the sizes that a start itself gives, whatever it is given: 24 places for phys, each with four error counts and four monitors
 pub record Placed (s : Shelf) : Type 0 where
@@ -81,11 +96,17 @@ AllFit (operation ∷ operations) = OperationFits operation × AllFit operations
 
 -- ---- What holds of a started shelf, after any operations that fit
 
--- The invariant: every number fits, "1 to 24 phys", "Zone groups 0 to 31", the table is legal, and 0000h, "the forcing value", is not the
--- present count.
+-- #101: indexes "run from 0001h": until 32 entries are kept the last index is their number, and from then on it is not 0000h
+pub record InARow (k : Store) : Type 0 where
+  pub few : k .count < 32 → k .last ≡ k .count
+  pub full : 32 ≤ k .count → (k .count ≤ 63) × (1 ≤ k .last)
+
+-- The invariant: every number fits, "1 to 24 phys", "Zone groups 0 to 31", the table is legal, 0000h, "the forcing value", is not the
+-- present count, and the stored peak events have indexes in a row.
 pub record Sound (s : Shelf) : Type 0 where
   pub fits : Fits s
   pub number : (1 ≤ s .number) × (s .number ≤ 24)
   pub groups : (p : ℕ) → p < 24 → phyAt s p .group ≤ 31
   pub legal : T (legalTable (s .table))
   pub present : 1 ≤ s .changes
+  pub in-a-row : InARow (s .store)

@@ -18,10 +18,13 @@ pub mod Server
 pub mod Sources
 pub mod Counting
 pub mod Reports
+-- #101: the list of stored peak events
+pub mod Store
 -- "What each promise has to rule out": that it settles its outcome; runs, and the sizes and widths of what is in them; and for demand 3
 -- what is crossed out of them
 pub mod Settled
 pub mod Runs
+pub mod History
 pub mod Fits
 pub mod CrossedOut
 -- "Shelf W, for checking": the reader of hexadecimal, the shelf, the cases, and further vectors

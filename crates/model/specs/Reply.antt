@@ -4,15 +4,18 @@ use mathlib.Core.Bool.{cond}
 use mathlib.Core.List.{List, [], _∷_, _++_}
 use lib.Dec.{eqb}
 use lib.ListN.{length, getD}
+use Rattle.model.specs.declared.Entry.{Entry}
 use Rattle.model.specs.declared.Monitor.{Monitor}
 use Rattle.model.specs.declared.Phy.{Phy}
 use Rattle.model.specs.declared.Request.{Request}
 use Rattle.model.specs.declared.Request.the-variants.{ReportGeneral, ReportManufacturer, ReportBroadcast}
 use Rattle.model.specs.declared.Request.the-variants.{ReportPhyErrorLog, ReportPhyEvent, PhyControl}
-use Rattle.model.specs.declared.Request.the-variants.{ConfigurePhyEvent}
+use Rattle.model.specs.declared.Request.the-variants.{ReportPhyEventList, ConfigurePhyEvent}
 use Rattle.model.specs.declared.Shelf.{Shelf}
+use Rattle.model.specs.declared.Store.{Store}
 use Rattle.model.specs.Bytes.{one, two, four, text, zeros, laid}
 use Rattle.model.specs.Shelf.{phyNumber, phyAt, freshMonitor}
+use Rattle.model.specs.Store.{firstReturned, returned}
 use Rattle.model.specs.Tests.{joinBelow}
 use Rattle.model.specs.Zone.{row, rowReaches}
 
@@ -117,9 +120,13 @@ broadcasts s g kind =
 abbrev pub broadcastDescriptor : Broadcast → List ℕ
 broadcastDescriptor b = laid (zeros 8) ((0, one (b .phy)) ∷ (2, one (b .reason)) ∷ (4, two (b .count)) ∷ [])
 
-unfoldable pub broadcastBytes : List Broadcast → List ℕ
-broadcastBytes [] = []
-broadcastBytes (b ∷ bs) = broadcastDescriptor b ++ broadcastBytes bs
+-- descriptors one behind another, where `of` gives the bytes of one
+unfoldable pub descriptors : {A : Type 0} → (A → List ℕ) → List A → List ℕ
+descriptors of [] = []
+descriptors of (x ∷ xs) = of x ++ descriptors of xs
+
+abbrev pub broadcastBytes : List Broadcast → List ℕ
+broadcastBytes bs = descriptors broadcastDescriptor bs
 
 -- 06h: "Response: 6 type, 7 number n, then n descriptors of 8 bytes, length 1 + 2n."
 abbrev pub broadcastHead : ℕ → ℕ → ℕ → List ℕ
@@ -131,6 +138,22 @@ broadcastFrame changes kind bs = broadcastHead changes kind (length bs) ++ broad
 unfoldable pub reportBroadcast : Shelf → ℕ → ℕ → List ℕ
 reportBroadcast s g kind = broadcastFrame (s .changes) kind (broadcasts s g kind)
 
+-- #101, 21h: "The response has 4 and 5 the change count, 6 and 7 the first index returned, 8 and 9 the last index stored (0000h if none),
+-- 10 the number 3, 11 the number of descriptors". Its length in dwords is 2 + 3n.
+abbrev pub eventListHead : ℕ → ℕ → ℕ → ℕ → List ℕ
+eventListHead changes first last n =
+    response 0x21 12 (2 + 3 * n) (changeCount changes ∷ (6, two first) ∷ (8, two last) ∷ (10, one 3) ∷ (11, one n) ∷ [])
+
+-- ".. then from 12 descriptors of 12 bytes as in 14h with the phy at byte 2, oldest first"
+abbrev pub entryDescriptor : Entry → List ℕ
+entryDescriptor e = laid (eventDescriptor (e .monitor)) ((2, one (e .phy)) ∷ [])
+
+abbrev pub eventListFrame : ℕ → ℕ → ℕ → List Entry → List ℕ
+eventListFrame changes first last es = eventListHead changes first last (length es) ++ descriptors entryDescriptor es
+
+unfoldable pub reportPhyEventList : ℕ → Store → ℕ → List ℕ
+reportPhyEventList changes k start = eventListFrame changes (firstReturned k start) (k .last) (returned k start)
+
 -- The accepted response to each request, to source group g. 91h and 93h: "Response 4 bytes."
 unfoldable pub respond : Shelf → ℕ → Request → List ℕ
 respond s g ReportGeneral = reportGeneral (s .changes) (phyNumber s) (s .identifier)
@@ -138,5 +161,6 @@ respond s g ReportManufacturer = reportManufacturer (s .changes)
 respond s g (ReportBroadcast kind) = reportBroadcast s g kind
 respond s g (ReportPhyErrorLog p) = reportPhyErrorLog (s .changes) p (phyAt s p)
 respond s g (ReportPhyEvent p) = reportPhyEvent (s .changes) p (phyAt s p)
+respond s g (ReportPhyEventList start) = reportPhyEventList (s .changes) (s .store) start
 respond s g (PhyControl expected p operation) = response 0x91 4 0x00 []
 respond s g (ConfigurePhyEvent expected clear p d) = response 0x93 4 0x00 []

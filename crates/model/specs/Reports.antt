@@ -10,9 +10,10 @@ use Rattle.model.specs.declared.Phy.{Phy}
 use Rattle.model.specs.declared.Shelf.{Shelf}
 use Rattle.model.specs.declared.Taken.{Taken}
 use Rattle.model.specs.declared.Taken.the-variants.{Done, NotDone}
-use Rattle.model.specs.Counting.{originate, carriedOut, changeOn, eventOn}
+use Rattle.model.specs.Counting.{originate, changeOn, eventOn}
 use Rattle.model.specs.Shelf.{exists, phyAt, putDevice, outcome}
 use Rattle.model.specs.Sources.{supported}
+use Rattle.model.specs.Store.{carriedOut}
 use Rattle.model.specs.Tests.{given}
 
 -- "amount above FFh for 2Bh, or above FFFFh for 2Ch"

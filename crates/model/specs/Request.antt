@@ -12,7 +12,7 @@ use Rattle.model.specs.declared.Judged.the-variants.{Asked, NoFrame, Fai
 use Rattle.model.specs.declared.Request.{Request}
 use Rattle.model.specs.declared.Request.the-variants.{ReportGeneral, ReportManufacturer, ReportBroadcast}
 use Rattle.model.specs.declared.Request.the-variants.{ReportPhyErrorLog, ReportPhyEvent, PhyControl}
-use Rattle.model.specs.declared.Request.the-variants.{ConfigurePhyEvent}
+use Rattle.model.specs.declared.Request.the-variants.{ReportPhyEventList, ConfigurePhyEvent}
 use Rattle.model.specs.Bytes.{byte, word, dword}
 use Rattle.model.specs.Sources.{supported}
 use Rattle.model.specs.Tests.{check, given, oneOf}
@@ -26,9 +26,10 @@ badFrame frame = ltb (length frame) 4 || not (eqb (byte frame 0) 0x40)
 abbrev pub functionOf : List ℕ → ℕ
 functionOf frame = byte frame 1
 
--- not 01h UNKNOWN SMP FUNCTION: "not 00h, 01h, 06h, 11h, 14h, 91h or 93h"
+-- not 01h UNKNOWN SMP FUNCTION: "not 00h, 01h, 06h, 11h, 14h, 91h or 93h", and by #101 "function 21h joins the known functions, in the
+-- frame judge too"
 unfoldable pub known : ℕ → Bool
-known function = oneOf (0x00 ∷ 0x01 ∷ 0x06 ∷ 0x11 ∷ 0x14 ∷ 0x91 ∷ 0x93 ∷ []) function
+known function = oneOf (0x00 ∷ 0x01 ∷ 0x06 ∷ 0x11 ∷ 0x14 ∷ 0x21 ∷ 0x91 ∷ 0x93 ∷ []) function
 
 -- of this function, this true length, and one of these lengths in byte 3
 abbrev pub shaped : List ℕ → ℕ → ℕ → List ℕ → Bool
@@ -36,7 +37,8 @@ shaped frame function size lengths =
     eqb (functionOf frame) function && eqb (length frame) size && oneOf lengths (byte frame 3)
 
 -- Not 03h INVALID REQUEST FRAME LENGTH: "byte 3 or the frame's true length is not as below". With d in byte 11, a 93h
--- frame has 12 + 8d bytes, as exact numbers, so one under 12 bytes fails here.
+-- frame has 12 + 8d bytes, as exact numbers, so one under 12 bytes fails here. #101: "The request has 8 bytes, length 01h", "with 03h for any
+-- other length".
 unfoldable pub lengthRight : List ℕ → Bool
 lengthRight frame =
     shaped frame 0x00 4 (0x00 ∷ [])
@@ -44,6 +46,7 @@ lengthRight frame =
     || shaped frame 0x06 4 (0x00 ∷ [])
     || shaped frame 0x11 12 (0x02 ∷ 0x00 ∷ [])
     || shaped frame 0x14 12 (0x02 ∷ [])
+    || shaped frame 0x21 8 (0x01 ∷ [])
     || shaped frame 0x91 40 (0x09 ∷ 0x00 ∷ [])
     || shaped frame 0x93 (12 + 8 * byte frame 11) ((2 + 2 * byte frame 11) ∷ [])
 
@@ -52,7 +55,8 @@ abbrev pub clears : List ℕ → Bool
 clears frame = bit (byte frame 6) 0
 
 -- What a frame of a known function and a right length asks: "type in byte 2" (06h), phy in byte 9, the expected count in
--- "bytes 4 and 5" (91h and 93h), "operation in byte 10" (91h), "d in byte 11, bit 0 of byte 6 clears peaks" (93h, the one that is left).
+-- "bytes 4 and 5" (91h and 93h), "starting index in 6 and 7" (21h, #101), "operation in byte 10" (91h), "d in byte 11, bit 0 of byte 6
+-- clears peaks" (93h, the one that is left).
 unfoldable pub asked : List ℕ → Request
 asked frame =
     cond (eqb (functionOf frame) 0x00) ReportGeneral
@@ -60,8 +64,9 @@ asked frame =
     (cond (eqb (functionOf frame) 0x06) (ReportBroadcast (byte frame 2))
     (cond (eqb (functionOf frame) 0x11) (ReportPhyErrorLog (byte frame 9))
     (cond (eqb (functionOf frame) 0x14) (ReportPhyEvent (byte frame 9))
+    (cond (eqb (functionOf frame) 0x21) (ReportPhyEventList (word frame 6))
     (cond (eqb (functionOf frame) 0x91) (PhyControl (word frame 4) (byte frame 9) (byte frame 10))
-    (ConfigurePhyEvent (word frame 4) (clears frame) (byte frame 9) (byte frame 11)))))))
+    (ConfigurePhyEvent (word frame 4) (clears frame) (byte frame 9) (byte frame 11))))))))
 
 unfoldable pub judge : List ℕ → Judged
 judge frame =
@@ -77,6 +82,7 @@ phyOf ReportManufacturer = 0
 phyOf (ReportBroadcast kind) = 0
 phyOf (ReportPhyErrorLog p) = p
 phyOf (ReportPhyEvent p) = p
+phyOf (ReportPhyEventList start) = 0
 phyOf (PhyControl expected p operation) = p
 phyOf (ConfigurePhyEvent expected clear p d) = p
 

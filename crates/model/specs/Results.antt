@@ -9,11 +9,12 @@ use Rattle.model.specs.declared.FunctionResult.the-variants.{InvalidRequ
 use Rattle.model.specs.declared.FunctionResult.the-variants.{InvalidExpanderChangeCount, PhyDoesNotExist}
 use Rattle.model.specs.declared.FunctionResult.the-variants.{UnknownPhyOperation, PhyVacant}
 use Rattle.model.specs.declared.FunctionResult.the-variants.{UnknownPhyEventSource, SmpZoneViolation}
+use Rattle.model.specs.declared.FunctionResult.the-variants.{NoManagementAccessRights}
 use Rattle.model.specs.declared.Grounds.{Grounds}
 use Rattle.model.specs.declared.Request.{Request}
 use Rattle.model.specs.declared.Request.the-variants.{ReportGeneral, ReportManufacturer, ReportBroadcast}
 use Rattle.model.specs.declared.Request.the-variants.{ReportPhyErrorLog, ReportPhyEvent, PhyControl}
-use Rattle.model.specs.declared.Request.the-variants.{ConfigurePhyEvent}
+use Rattle.model.specs.declared.Request.the-variants.{ReportPhyEventList, ConfigurePhyEvent}
 use Rattle.model.specs.declared.Shelf.{Shelf}
 use Rattle.model.specs.Reach.{reaches}
 use Rattle.model.specs.Request.{phyOf, firstUnsupported}
@@ -31,14 +32,15 @@ resultCode UnknownPhyOperation = 0x13
 resultCode PhyVacant = 0x16
 resultCode UnknownPhyEventSource = 0x17
 resultCode SmpZoneViolation = 0x20
+resultCode NoManagementAccessRights = 0x21
 
 abbrev pub accepted : FunctionResult → Bool
 accepted result = eqb (resultCode result) 0x00
 
 -- What may decide a request from source group g that names phy p: of the shelf the present change count, whether the phy exists, and
--- whether the source reaches it.
+-- whether the source reaches it; and whether the source is group 1 (#101).
 abbrev pub grounds : Shelf → ℕ → ℕ → Grounds
-grounds s g p = record { changes = s .changes; there = exists s p; reached = reaches s g p }
+grounds s g p = record { changes = s .changes; there = exists s p; reached = reaches s g p; management = eqb g 1 }
 
 -- not 04h: "91h and 93h, when bytes 4 and 5 are neither 0000h nor the present count"
 unfoldable pub countRight : Grounds → ℕ → Bool
@@ -81,6 +83,11 @@ checkDescriptors frame d =
     (check (eqb (firstUnsupported frame d 0) d) UnknownPhyEventSource
     Accepted)
 
+-- #101: "The index tells about phys out of reach, so only source group 1 may ask". "result 21h NO MANAGEMENT ACCESS RIGHTS for other
+-- sources comes directly after 03h"
+abbrev pub checkManagement : Grounds → FunctionResult
+checkManagement on = check (on .management) NoManagementAccessRights Accepted
+
 -- The result of a request that was read from this frame, on these grounds. 01h and 03h are behind it: `judge` gives them.
 unfoldable pub resultOf : Grounds → List ℕ → Request → FunctionResult
 resultOf on frame ReportGeneral = Accepted
@@ -88,6 +95,7 @@ resultOf on frame ReportManufacturer = Accepted
 resultOf on frame (ReportBroadcast kind) = checkKind kind
 resultOf on frame (ReportPhyErrorLog p) = checkRead on
 resultOf on frame (ReportPhyEvent p) = checkRead on
+resultOf on frame (ReportPhyEventList start) = checkManagement on
 resultOf on frame (PhyControl expected p operation) = checkWrite on expected (checkOperation operation)
 resultOf on frame (ConfigurePhyEvent expected clear p d) = checkWrite on expected (checkDescriptors frame d)
 

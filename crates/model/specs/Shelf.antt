@@ -4,11 +4,13 @@ use mathlib.Core.Bool.{Bool, true, not, cond}
 use mathlib.Core.List.{List, [], _∷_}
 use lib.Dec.{ltb}
 use lib.ListN.{getD, set, replicate}
+use Rattle.model.specs.declared.Entry.{Entry}
 use Rattle.model.specs.declared.House.the-variants.{PhyNumber, PhyGroup, IllegalTable}
 use Rattle.model.specs.declared.Monitor.{Monitor}
 use Rattle.model.specs.declared.Outcome.{Outcome}
 use Rattle.model.specs.declared.Phy.{Phy}
 use Rattle.model.specs.declared.Shelf.{Shelf}
+use Rattle.model.specs.declared.Store.{Store}
 use Rattle.model.specs.declared.Taken.{Taken}
 use Rattle.model.specs.declared.Taken.the-variants.{Done, NotDone}
 use Rattle.model.specs.Bytes.{zeros}
@@ -65,9 +67,9 @@ phyWith x enabled errors monitors change0 expander1 expander2 =
       expander2 = expander2;
     }
 
--- a shelf with other phys and counts, and the phy number, table and identifier that it had
-abbrev pub shelfWith : Shelf → List Phy → ℕ → ℕ → ℕ → Shelf
-shelfWith s phys changes expander3 ses0 =
+-- a shelf with other phys, counts and stored peak events, and the phy number, table and identifier that it had
+abbrev pub shelfWith : Shelf → List Phy → ℕ → ℕ → ℕ → Store → Shelf
+shelfWith s phys changes expander3 ses0 store =
     record {
       number = s .number;
       phys = phys;
@@ -76,15 +78,20 @@ shelfWith s phys changes expander3 ses0 =
       changes = changes;
       expander3 = expander3;
       ses0 = ses0;
+      store = store;
     }
 
 -- another record for phy p, and another change count
 abbrev pub put : Shelf → ℕ → Phy → ℕ → Shelf
-put s p x changes = shelfWith s (set (s .phys) p x) changes (s .expander3) (s .ses0)
+put s p x changes = shelfWith s (set (s .phys) p x) changes (s .expander3) (s .ses0) (s .store)
 
 -- other counts under FFh
 abbrev pub putDevice : Shelf → ℕ → ℕ → Shelf
-putDevice s expander3 ses0 = shelfWith s (s .phys) (s .changes) expander3 ses0
+putDevice s expander3 ses0 = shelfWith s (s .phys) (s .changes) expander3 ses0 (s .store)
+
+-- another list of stored peak events
+abbrev pub putStore : Shelf → Store → Shelf
+putStore s store = shelfWith s (s .phys) (s .changes) (s .expander3) (s .ses0) store
 
 -- ---- A start
 
@@ -94,6 +101,16 @@ startGroup n groups p = cond (ltb p n) (getD groups p 0) 0
 
 abbrev pub freshPhys : ℕ → List ℕ → List Phy
 freshPhys n groups = joinBelow 24 (λ p. freshPhy (startGroup n groups p) ∷ [])
+
+-- #101: "8 and 9 the last index stored (0000h if none)"; a start has stored none
+abbrev pub entryOf : ℕ → Monitor → Entry
+entryOf p m = record { phy = p; monitor = m }
+
+abbrev pub noEntry : Entry
+noEntry = entryOf 0 freshMonitor
+
+abbrev pub freshStore : Store
+freshStore = record { last = 0x0000; count = 0; entries = replicate 32 noEntry }
 
 -- "the change count is 0001h, every other number is 0"
 unfoldable pub freshShelf : ℕ → List ℕ → List ℕ → List ℕ → Shelf
@@ -106,6 +123,7 @@ freshShelf n groups table identifier =
       changes = 0x0001;
       expander3 = 0;
       ses0 = 0;
+      store = freshStore;
     }
 
 -- "A refused start gives no device": this shelf of no phys, in which nobody reaches anything, stands for it.

@@ -8,5 +8,6 @@ pub mod Results
 pub mod Frames
 pub mod Stays
 pub mod Peaks
+pub mod Stored
 pub mod CrossedOut
 pub mod Told

@@ -10,12 +10,13 @@ use Rattle.model.specs.declared.Phy.{Phy}
 use Rattle.model.specs.declared.Request.{Request}
 use Rattle.model.specs.declared.Request.the-variants.{ReportGeneral, ReportManufacturer, ReportBroadcast}
 use Rattle.model.specs.declared.Request.the-variants.{ReportPhyErrorLog, ReportPhyEvent, PhyControl}
-use Rattle.model.specs.declared.Request.the-variants.{ConfigurePhyEvent}
+use Rattle.model.specs.declared.Request.the-variants.{ReportPhyEventList, ConfigurePhyEvent}
 use Rattle.model.specs.declared.Shelf.{Shelf}
-use Rattle.model.specs.Counting.{originateIf, quiet, carriedOut, changeOn, withValue}
+use Rattle.model.specs.Counting.{originateIf, effectOf, quiet, changeOn, withValue}
 use Rattle.model.specs.Request.{descriptorSource, descriptorThreshold}
 use Rattle.model.specs.Shelf.{monitor, phyWith, phyAt}
 use Rattle.model.specs.Sources.{peak}
+use Rattle.model.specs.Store.{carriedOut}
 
 -- 91h 05h: "sets the four error counts to 0"
 abbrev pub withoutErrors : Phy → Phy
@@ -59,9 +60,15 @@ unfoldable pub anyPeak : List Monitor → Bool
 anyPeak [] = false
 anyPeak (m ∷ ms) = peak (m .source) || anyPeak ms
 
+-- #101: "each Expander 2h stores every peak monitor of the phy with its value before the clear, in monitor order"
+abbrev pub peaks : List Monitor → List Bool
+peaks monitors = map (λ m. peak (m .source)) monitors
+
 unfoldable pub clearOn : Phy → Effect
 clearOn x =
-    quiet (withMonitors x (map clearMonitor (x .monitors)) (originateIf (anyPeak (x .monitors)) (x .expander2)))
+    effectOf
+    (withMonitors x (map clearMonitor (x .monitors)) (originateIf (anyPeak (x .monitors)) (x .expander2)))
+    false (x .monitors) (peaks (x .monitors))
 
 unfoldable pub configured : List ℕ → ℕ → Bool → Phy → Effect
 configured frame d clear x = cond clear (clearOn (setOn frame d x)) (quiet (setOn frame d x))
@@ -77,6 +84,7 @@ doing frame ReportManufacturer = Reads
 doing frame (ReportBroadcast kind) = Reads
 doing frame (ReportPhyErrorLog p) = Reads
 doing frame (ReportPhyEvent p) = Reads
+doing frame (ReportPhyEventList start) = Reads
 doing frame (PhyControl expected p operation) = WritesTo p (controlled operation)
 doing frame (ConfigurePhyEvent expected clear p d) = WritesTo p (configured frame d clear)
 

@@ -28,11 +28,31 @@ pub struct Phy {
     pub expander2: u16,
 }
 
-// What a write or a report does to the phy that it names: the phy afterwards, and whether it originated Change, which moves
-// the change count too (`carriedOut` of specs/Counting).
+// What a write or a report does to the phy that it names: the phy afterwards; whether it originated Change, which moves
+// the change count too; and for the list of stored peak events (#101) the phy's monitors as they stand when they are
+// stored, and of each whether it is (`carriedOut` of specs/Store).
 pub struct Effect {
     pub phy: Phy,
     pub change: bool,
+    pub monitors: [Monitor; 4],
+    pub stored: [bool; 4],
+}
+
+// An entry of the list of stored peak events: the phy, and its monitor (source, value and threshold) as it stood.
+pub struct Entry {
+    pub phy: u8,
+    pub monitor: Monitor,
+}
+
+// The list of stored peak events (#101), as it is kept: a store writes one entry in place. What it holds, oldest first, and
+// under which indexes, is in specs/Store.
+pub struct Store {
+    // the last index stored, 0000h if none
+    pub last: u16,
+    // how many stores there were, counted on from 32 after 63: the next one's place is its remainder by 32, and below 32 it
+    // is how many entries are kept
+    pub count: u32,
+    pub entries: [Entry; 32],
 }
 
 // The shelf: its phys, the permission table, and what is device wide.
@@ -50,6 +70,8 @@ pub struct Shelf {
     pub expander3: u16,
     // SES 0h, under FFh
     pub ses0: u16,
+    // the list of stored peak events
+    pub store: Store,
 }
 
 // The house refusals, H1 to H9 in this order; `houseNumber` gives each its number.
@@ -77,6 +99,7 @@ pub enum FunctionResult {
     PhyVacant,
     UnknownPhyEventSource,
     SmpZoneViolation,
+    NoManagementAccessRights,
 }
 
 // A request frame as it was read: one variant to a function, with the bytes that it names. (The expected count, two
@@ -95,6 +118,11 @@ pub enum Request {
     ReportPhyEvent {
         phy: u8,
     },
+    // 21h, #101
+    ReportPhyEventList {
+        // the starting index
+        start: u16,
+    },
     PhyControl {
         expected: u32,
         phy: u8,
@@ -108,12 +136,13 @@ pub enum Request {
     },
 }
 
-// What may decide a request that was read: the present change count, whether the phy that it names exists, and whether its
-// source reaches it (`grounds` of specs/Results).
+// What may decide a request that was read: the present change count, whether the phy that it names exists, whether its
+// source reaches it, and whether its source is group 1, which has management access rights (`grounds` of specs/Results).
 pub struct Grounds {
     pub changes: u16,
     pub there: bool,
     pub reached: bool,
+    pub management: bool,
 }
 
 // What judging one request frame alone yields: the read request, a house refusal or a failed result.

@@ -7,11 +7,12 @@ use lib.ListN.{getD}
 use Rattle.model.specs.declared.Effect.{Effect}
 use Rattle.model.specs.declared.Phy.{Phy}
 use Rattle.model.specs.declared.Shelf.{Shelf}
-use Rattle.model.specs.Counting.{originateIf, carriedOut, changeOn, eventOn}
+use Rattle.model.specs.Counting.{originateIf, changeOn, eventOn}
 use Rattle.model.specs.Fits.{Placed}
 use Rattle.model.specs.Reports.{eventTaken, event, linkChangeTaken, linkChangeOn, linkChange, reducedFunctionality, sesNotice}
 use Rattle.model.specs.Runs.{Operation, next, Started}
 use Rattle.model.specs.Shelf.{noPhy, exists, phyAt, outcome}
+use Rattle.model.specs.Store.{carriedOut}
 use Rattle.model.proofs.Demands.Invariant.{started-placed, phy-placed}
 use Rattle.model.proofs.Laws.Checks.{every-outcome}
 use Rattle.model.proofs.Laws.PhyChanges.{event-inner, link-change-inner, configured-inner, controlled-inner}

@@ -3,40 +3,44 @@
 -- are left by one write. Assumes nothing.
 use Prim.Native.Nat.{ℕ, _≤_, _<_}
 use native.Mathlib.Nat.{zero-add}
-use mathlib.Core.Path.{_≡_, refl, sym, ap, _∙_}
+use mathlib.Core.Path.{_≡_, refl, sym, ap, subst⁻¹, _∙_}
 use mathlib.Core.Logic.{_↔_, Iff·rfl}
 use mathlib.Core.Bool.{Bool, true, false, not, cond, _&&_}
 use mathlib.Core.List.{List, [], _∷_, map, List·Memᴰ}
-use borrow.Author.Tests.{ltb-true, ltb-false, lt-ltb, le-ltb, eqb-true, eqb-false, eq-eqb}
+use borrow.Author.Tests.{ltb-true, ltb-false, lt-ltb, le-ltb, eqb-true, eqb-false, eq-eqb, ne-eqb}
 use lib.Dec.{T, ltb, eqb}
 use lib.ListN.{length, getD, replicate, length-map, List·getD-map}
 use lib.Seq.{ext-getD, set-getD}
+use Rattle.model.specs.declared.Effect.{Effect}
 use Rattle.model.specs.declared.Monitor.{Monitor}
 use Rattle.model.specs.declared.Phy.{Phy}
 use Rattle.model.specs.declared.Request.the-variants.{PhyControl, ConfigurePhyEvent}
 use Rattle.model.specs.declared.Shelf.{Shelf}
 use Rattle.model.specs.Bytes.{byte}
-use Rattle.model.specs.Counting.{originate, originateIf, quiet, changeOn, withValue}
+use Rattle.model.specs.Counting.{originate, originateIf, quiet, picked, changeOn, withValue}
 use Rattle.model.specs.Fits.{Placed}
 use Rattle.model.specs.Reply.{monitorAt}
 use Rattle.model.specs.Request.{clears, descriptorSource, descriptorThreshold}
-use Rattle.model.specs.Shelf.{exists, noPhy, phyAt, monitor, phyWith, shelfWith, freshMonitor}
+use Rattle.model.specs.Shelf.{exists, noPhy, phyAt, monitor, phyWith, shelfWith, freshMonitor, entryOf}
 use Rattle.model.specs.Sources.{peak}
+use Rattle.model.specs.Store.{storeAll}
 use Rattle.model.specs.Writes.{controlled, setMonitor, setMonitors, withMonitors, setOn, clearMonitor}
-use Rattle.model.specs.Writes.{anyPeak, clearOn, configured, doing, effect}
+use Rattle.model.specs.Writes.{anyPeak, peaks, clearOn, configured, doing, effect}
 use Rattle.model.proofs.Demands.Invariant.{phy-placed}
-use Rattle.model.proofs.Laws.Tests.{and-iff, not-both-iff, both-iff, cond-iff, cond-both, eqb-iff, by-each}
+use Rattle.model.proofs.Laws.Tests.{is-true, is-false, and-iff, not-both-iff, both-iff, cond-iff, cond-both, eqb-iff, by-each}
+use Rattle.model.proofs.Laws.PhyChanges.{configured-inner}
+use Rattle.model.proofs.Plain.Counting.{none-picked}
 use Rattle.model.proofs.Plain.Results.{knownOperations}
 use Rattle.model.proofs.Plain.Shelf.{OnlyPhy, put-same, put-only}
-use Rattle.model.proofs.Plain.Writes.{set-length, set-at, HasPeak, anyPeak-iff}
+use Rattle.model.proofs.Plain.Writes.{controlled-stores, set-length, set-at, HasPeak, anyPeak-iff}
 
--- Two shelves that differ from s in phy p and in the change count at most, and agree in these, are one.
+-- Two shelves that differ from s in phy p, in the change count and in the stored peak events at most, and agree in these, are one.
 pub same-shelf : {s t u : Shelf} {p : ℕ} → OnlyPhy s p t → OnlyPhy s p u
-    → phyAt t p ≡ phyAt u p → t .changes ≡ u .changes → t ≡ u
-same-shelf {s} {t} {u} {p} a b same count =
+    → phyAt t p ≡ phyAt u p → t .changes ≡ u .changes → t .store ≡ u .store → t ≡ u
+same-shelf {s} {t} {u} {p} a b same count stored =
     let phys : t .phys ≡ u .phys =
     ext-getD noPhy (t .phys) (u .phys) (a .size ∙ sym (b .size)) (λ q h. at q (eqb q p) refl) in
-    let whole : (r : Shelf) → r ≡ shelfWith r (r .phys) (r .changes) (r .expander3) (r .ses0) = λ r. refl in
+    let whole : (r : Shelf) → r ≡ shelfWith r (r .phys) (r .changes) (r .expander3) (r .ses0) (r .store) = λ r. refl in
     cc (whole t, whole u)
   where
     at : (q : ℕ) (here : Bool) → eqb q p ≡ here → phyAt t q ≡ phyAt u q
@@ -62,7 +66,7 @@ errorless x = phyWith x (x .enabled) (replicate 4 0) (x .monitors) (x .change0) 
 
 -- "00h none; 01h link reset enables the phy and originates Change; 03h disable originates Change only if the phy was enabled;
 -- 05h sets the four error counts to 0." Change also moves the change count. There are as many phys as before, and no other phy,
--- nor any number under FFh, is another.
+-- nor any number under FFh, is another; nothing is stored.
 pub record Controlled (s : Shelf) (p operation : ℕ) (t : Shelf) : Type 0 where
   pub only : OnlyPhy s p t
   pub none : operation ≡ 0x00 → t ≡ s
@@ -71,6 +75,7 @@ pub record Controlled (s : Shelf) (p operation : ℕ) (t : Shelf) : Type 0 where
       → Has t p (changeOriginated (phyAt s p) false) (originate (s .changes))
   pub disabled-already : operation ≡ 0x03 → phyAt s p .enabled ≡ false → t ≡ s
   pub clear-errors : operation ≡ 0x05 → Has t p (errorless (phyAt s p)) (s .changes)
+  pub store : t .store ≡ s .store
 
 -- an accepted 91h, of a phy that exists, does exactly this
 pub controlled-effect : (s : Shelf) (frame : List ℕ) (expected p operation : ℕ) → Placed s → T (exists s p)
@@ -80,11 +85,12 @@ controlled-effect s frame expected p operation placed there =
     let (h, _) = phy-placed s p placed there in
     record {
       only = put-only s p _ _;
-      none = λ e. rw (e, set-getD);
+      none = λ e. rw (e, set-getD, none-picked 4 (phyAt s p .monitors));
       link-reset = λ e. rw e (put-same s p _ (s .changes) h, refl);
       disable = λ e on. rw (e, on) (put-same s p _ (s .changes) h, refl);
-      disabled-already = λ e off. rw (e, off, set-getD);
+      disabled-already = λ e off. rw (e, off, set-getD, none-picked 4 (phyAt s p .monitors));
       clear-errors = λ e. rw e (put-same s p _ (s .changes) h, refl);
+      store = controlled-stores (s .store) p operation (phyAt s p);
     }
 
 -- no two shelves are left by one of the four operations
@@ -98,7 +104,7 @@ controlled-one-shelf {s} {t} {u} {p} {operation} known a b =
     (λ e. alike (a .clear-errors e) (b .clear-errors e))
   where
     alike : {x : Phy} {n : ℕ} → Has t p x n → Has u p x n → t ≡ u
-    alike l r = same-shelf (a .only) (b .only) (cc) (cc)
+    alike l r = same-shelf (a .only) (b .only) (cc) (cc) (a .store ∙ sym (b .store))
 
     disabled : operation ≡ 0x03 → (on : Bool) → phyAt s p .enabled ≡ on → t ≡ u
     disabled e true on = alike (a .disable e on) (b .disable e on)
@@ -117,8 +123,21 @@ pub record MonitorConfigured (frame : List ℕ) (i : ℕ) (old new : Monitor) : 
   pub cleared : T (clears frame) → T (peak (new .source)) → new .value ≡ 0
   pub kept : new .source ≡ old .source → (T (clears frame) → T (peak (new .source)) → ⊥) → new .value ≡ old .value
 
+-- #101: a monitor "with its value before the clear", which is after the setting: old before the request, new after it.
+pub record Standing (old new standing : Monitor) : Type 0 where
+  pub source : standing .source ≡ new .source
+  pub threshold : standing .threshold ≡ new .threshold
+  pub same : new .source ≡ old .source → standing .value ≡ old .value
+  pub changed : (new .source ≡ old .source → ⊥) → standing .value ≡ 0
+
+-- "every peak monitor of the phy .. in monitor order": those of some monitors that are on a peak source
+pub data PeaksOf : List Monitor → List Monitor → Type 0 where
+  NoMore : PeaksOf [] []
+  IsPeak : {m : Monitor} {ms those : List Monitor} → T (peak (m .source)) → PeaksOf ms those → PeaksOf (m ∷ ms) (m ∷ those)
+  IsNone : {m : Monitor} {ms those : List Monitor} → (T (peak (m .source)) → ⊥) → PeaksOf ms those → PeaksOf (m ∷ ms) those
+
 -- ".. and if there is one such monitor or more, Expander 2h is originated once." Of the phy, nothing but the monitors and
--- Expander 2h is another; of the rest of the shelf nothing, the change count among it.
+-- Expander 2h is another; of the rest of the shelf nothing, the change count among it, but for what a clear stores.
 pub record Configured (s : Shelf) (p : ℕ) (frame : List ℕ) (t : Shelf) : Type 0 where
   pub only : OnlyPhy s p t
   pub changes : t .changes ≡ s .changes
@@ -131,6 +150,13 @@ pub record Configured (s : Shelf) (p : ℕ) (frame : List ℕ) (t : Shelf) : Typ
       → phyAt t p .expander2 ≡ originate (phyAt s p .expander2)
   pub not-originated : (T (clears frame) → (i : ℕ) → i < 4 → T (peak (monitorAt (phyAt t p) i .source)) → ⊥)
       → phyAt t p .expander2 ≡ phyAt s p .expander2
+  pub standing : List Monitor
+  pub standing-number : length standing ≡ 4
+  pub stands : (i : ℕ) → i < 4 → Standing (monitorAt (phyAt s p) i) (monitorAt (phyAt t p) i) (getD standing i freshMonitor)
+  pub stored : List Monitor
+  pub stored-peaks : T (clears frame) → PeaksOf standing stored
+  pub stored-none : (T (clears frame) → ⊥) → stored ≡ []
+  pub store : t .store ≡ storeAll (s .store) (map (entryOf p) stored)
 
 -- ---- one monitor: what it is set to, and what the clear then makes of it
 
@@ -256,17 +282,35 @@ module _ (frame : List ℕ) (x : Phy) where
   abbrev monitorsAfter : List Monitor
   monitorsAfter = clearedIf (clears frame) monitorsSet
 
-  configured-is : configured frame (byte frame 11) (clears frame) x
-      ≡ quiet (withMonitors x monitorsAfter (originateIf (clears frame && anyPeak monitorsAfter) (x .expander2)))
+  configured-is : configured frame (byte frame 11) (clears frame) x .phy
+      ≡ withMonitors x monitorsAfter (originateIf (clears frame && anyPeak monitorsAfter) (x .expander2))
   unfolding configured setOn clearOn
   configured-is = go (clears frame)
     where
       go : (clear : Bool)
-          → cond clear (clearOn (setOn frame (byte frame 11) x)) (quiet (setOn frame (byte frame 11) x))
-          ≡ quiet
-          (withMonitors x (clearedIf clear monitorsSet) (originateIf (clear && anyPeak (clearedIf clear monitorsSet)) (x .expander2)))
+          → cond clear (clearOn (setOn frame (byte frame 11) x)) (quiet (setOn frame (byte frame 11) x)) .phy
+          ≡ withMonitors x (clearedIf clear monitorsSet) (originateIf (clear && anyPeak (clearedIf clear monitorsSet)) (x .expander2))
       go true = rw cleared-peaks
       go false = refl
+
+  -- it originates no Change
+  configured-quiet : configured frame (byte frame 11) (clears frame) x .change ≡ false
+  configured-quiet = configured-inner frame (byte frame 11) (clears frame) .change x
+
+  -- what it stores, if it clears: the peak monitors as they are once they are set
+  abbrev clearStores : List Monitor
+  clearStores = cond (clears frame) (picked (peaks monitorsSet) monitorsSet) []
+
+  configured-stores : let e : Effect = configured frame (byte frame 11) (clears frame) x in
+      picked (e .stored) (e .monitors) ≡ clearStores
+  unfolding configured setOn clearOn
+  configured-stores = go (clears frame)
+    where
+      go : (clear : Bool)
+          → (let e : Effect = cond clear (clearOn (setOn frame (byte frame 11) x)) (quiet (setOn frame (byte frame 11) x)) in
+          picked (e .stored) (e .monitors) ≡ cond clear (picked (peaks monitorsSet) monitorsSet) [])
+      go true = refl
+      go false = none-picked 4 monitorsSet
 
   number-after : length (x .monitors) ≡ 4 → length monitorsAfter ≡ 4
   number-after four = cleared-length (clears frame) monitorsSet ∙ set-length frame (byte frame 11) 0 (x .monitors) ∙ four
@@ -276,6 +320,48 @@ module _ (frame : List ℕ) (x : Phy) where
   each-after four i h =
       rw (cleared-at, set-at frame (byte frame 11) (x .monitors) 0 i i (zero-add i) (rw four h)) (after-is frame i (monitorAt x i))
 
+  -- how a monitor stands once it is set
+  each-set : length (x .monitors) ≡ 4 → (i : ℕ) → i < 4 → getD monitorsSet i freshMonitor ≡ setAt frame i (monitorAt x i)
+  each-set four i h = set-at frame (byte frame 11) (x .monitors) 0 i i (zero-add i) (rw four h)
+
+  each-stands : length (x .monitors) ≡ 4 → (i : ℕ) → i < 4
+      → Standing (monitorAt x i) (getD monitorsAfter i freshMonitor) (getD monitorsSet i freshMonitor)
+  each-stands four i h =
+      let m : Monitor = monitorAt x i in
+      rw (each-after four i h, each-set four i h, set-is frame i m)
+      (record {
+        source = refl;
+        threshold = refl;
+        same = λ e. rw (eq-eqb (m .source) (sourceAfter frame i m) (sym e));
+        changed = λ other. rw (ne-eqb (m .source) (sourceAfter frame i m) (λ e. other (sym e)));
+      })
+
+-- the marked ones are the peaks, and what is said of them settles them
+peaks-are : (ms : List Monitor) → PeaksOf ms (picked (peaks ms) ms)
+peaks-are [] = NoMore
+peaks-are (m ∷ ms) = go (peak (m .source)) refl (peaks-are ms)
+  where
+    go : (b : Bool) → peak (m .source) ≡ b → {those : List Monitor} → PeaksOf ms those → PeaksOf (m ∷ ms) (cond b (m ∷ those) those)
+    go true e others = IsPeak {m = m} (rw e tt) others
+    go false e others = IsNone {m = m} (λ t. rw e at t) others
+
+peaks-one : {ms these those : List Monitor} → PeaksOf ms these → PeaksOf ms those → these ≡ those
+peaks-one NoMore NoMore = refl
+peaks-one (IsPeak {m = m} c a) (IsPeak d b) = ap (λ those. m ∷ those) (peaks-one a b)
+peaks-one (IsPeak c a) (IsNone d b) = absurd (d c)
+peaks-one (IsNone c a) (IsPeak d b) = absurd (c d)
+peaks-one (IsNone c a) (IsNone d b) = peaks-one a b
+
+standing-one : {old new one other : Monitor} → Standing old new one → Standing old new other → one ≡ other
+standing-one {old} {new} {one} {other} a b =
+    let whole : (m : Monitor) → m ≡ monitor (m .source) (m .value) (m .threshold) = λ m. refl in
+    let value : one .value ≡ other .value = valued (eqb (new .source) (old .source)) refl in
+    cc (whole one, whole other, a .source, b .source, a .threshold, b .threshold)
+  where
+    valued : (same : Bool) → eqb (new .source) (old .source) ≡ same → one .value ≡ other .value
+    valued true e = let same = eqb-true (new .source) (old .source) e in a .same same ∙ sym (b .same same)
+    valued false e = let apart = eqb-false (new .source) (old .source) e in a .changed apart ∙ sym (b .changed apart)
+
 -- an accepted 93h, of a phy that exists, does exactly this
 pub configured-effect : (s : Shelf) (frame : List ℕ) (expected p : ℕ) → Placed s → T (exists s p)
     → Configured s p frame (effect s frame (ConfigurePhyEvent expected (clears frame) p (byte frame 11)))
@@ -284,11 +370,11 @@ configured-effect s frame expected p placed there =
     let x : Phy = phyAt s p in
     let (h, (_, four)) = phy-placed s p placed there in
     let ms : List Monitor = monitorsAfter frame x in
-    let new = put-same s p (configured frame (byte frame 11) (clears frame) x .phy) (s .changes) h ∙ ap (λ e. e .phy) (configured-is frame x) in
+    let new = put-same s p (configured frame (byte frame 11) (clears frame) x .phy) (s .changes) h ∙ configured-is frame x in
     let (finding, missing) = cond-iff (clears frame && anyPeak ms) _ (originate (x .expander2)) (x .expander2) .0 refl in
     record {
       only = put-only s p _ _;
-      changes = rw (configured-is frame x);
+      changes = rw (configured-quiet frame x);
       rest = rw new;
       number = rw new (number-after frame x four);
       each = rw new (λ i l. rw (each-after frame x four i l) (after-configured frame i (monitorAt x i)));
@@ -299,6 +385,13 @@ configured-effect s frame expected p placed there =
           (λ found.
           let (clear, (i, l, top)) = finds-iff frame ms .0 found in
           none clear i (rw (number-after frame x four) at l) top));
+      standing = monitorsSet frame x;
+      standing-number = set-length frame (byte frame 11) 0 (x .monitors) ∙ four;
+      stands = rw new (each-stands frame x four);
+      stored = clearStores frame x;
+      stored-peaks = λ clear. rw (is-true (clears frame) clear) (peaks-are (monitorsSet frame x));
+      stored-none = λ keeps. rw (is-false (clears frame) keeps);
+      store = rw (configured-stores frame x);
     }
 
 -- no two shelves are left by one 93h: its monitors are settled one by one, and they settle Expander 2h
@@ -322,4 +415,16 @@ configured-one-shelf {s} {t} {u} {p} {frame} a b =
     (λ i h.
     let l : i < 4 = rw (a .number) at h in
     configured-after frame (a .each i l) ∙ sym (configured-after frame (b .each i l))) in
+    let standing : a .standing ≡ b .standing =
+    ext-getD freshMonitor _ _ (a .standing-number ∙ sym (b .standing-number))
+    (λ i h.
+    let l : i < 4 = rw (a .standing-number) at h in
+    let same : monitorAt (phyAt t p) i ≡ monitorAt (phyAt u p) i = ap (λ ms. getD ms i freshMonitor) monitors in
+    standing-one (a .stands i l) (subst⁻¹ (λ m. Standing (monitorAt (phyAt s p) i) m (getD (b .standing) i freshMonitor)) same (b .stands i l))) in
     same-shelf (a .only) (b .only) (cc (a .rest, b .rest, expander2-is a, expander2-is b)) (cc)
+    (cc (a .store, b .store, stored-one standing (clears frame) refl))
+  where
+    stored-one : a .standing ≡ b .standing → (clear : Bool) → clears frame ≡ clear → a .stored ≡ b .stored
+    stored-one same true e =
+        peaks-one (a .stored-peaks (rw e tt)) (subst⁻¹ (λ ms. PeaksOf ms (b .stored)) same (b .stored-peaks (rw e tt)))
+    stored-one same false e = a .stored-none (λ t. rw e at t) ∙ sym (b .stored-none (λ t. rw e at t))

@@ -3,7 +3,7 @@
 -- shelves are left by one report. (A refused report leaves the shelf: `Refusals`, `event-refusal`.) Assumes nothing.
 use Prim.Native.Nat.{ℕ, _+_, _-_, _%_, _^_, _<_, min, max}
 use native.Mathlib.Omega.{arith}
-use mathlib.Core.Path.{_≡_, refl, sym, _∙_}
+use mathlib.Core.Path.{_≡_, refl, sym, ap, _∙_}
 use mathlib.Core.Logic.{⊎-elim}
 use mathlib.Core.Bool.{Bool, true, false}
 use mathlib.Core.List.{List, map}
@@ -20,8 +20,9 @@ use Rattle.model.specs.Fits.{Placed}
 use Rattle.model.specs.Reply.{errorAt, monitorAt}
 use Rattle.model.specs.Reports.{eventTaken, event}
 use Rattle.model.specs.Runs.{Started}
-use Rattle.model.specs.Shelf.{exists, phyAt, monitor, phyWith, freshMonitor}
+use Rattle.model.specs.Shelf.{exists, phyAt, monitor, phyWith, freshMonitor, entryOf}
 use Rattle.model.specs.Sources.{counting, peak, supported}
+use Rattle.model.specs.Store.{storeAll}
 use Rattle.model.specs.Tests.{within}
 use Rattle.model.proofs.Demands.Effects.{same-shelf}
 use Rattle.model.proofs.Demands.Fits.{Four}
@@ -65,11 +66,13 @@ pub record PhyCounted (source amount : ℕ) (x y : Phy) : Type 0 where
   pub change0 : y .change0 ≡ x .change0
   pub expander2 : y .expander2 ≡ x .expander2
 
--- The shelf s became t: phy p is counted, and no other phy, nor any number that is device wide, is another.
+-- The shelf s became t: phy p is counted, and no other phy, nor any number that is device wide, is another. #101: each monitor that
+-- crossed is stored, in monitor order, with its new value.
 pub record Counted (s : Shelf) (p source amount : ℕ) (t : Shelf) : Type 0 where
   pub phy : PhyCounted source amount (phyAt s p) (phyAt t p)
   pub only : OnlyPhy s p t
   pub changes : t .changes ≡ s .changes
+  pub store : t .store ≡ storeAll (s .store) (map (entryOf p) (phy .crossed))
 
 -- ---- one monitor
 
@@ -126,24 +129,24 @@ module _ (source amount : ℕ) (errors : List ℕ) where
 
 -- ---- the phy
 
-event-counted : (source amount : ℕ) (x : Phy) → Four x → PhyCounted source amount x (eventOn source amount x .phy)
+event-counted : (source amount : ℕ) (x y : Phy) → y ≡ eventOn source amount x .phy → Four x → PhyCounted source amount x y
 unfolding eventOn
-event-counted source amount x (four-errors, four-monitors) =
+event-counted source amount x y made (four-errors, four-monitors) =
     let new : List Monitor = map (counted source amount) (x .monitors) in
     let size : length new ≡ 4 = length-map (x .monitors) (counted source amount) ∙ four-monitors in
     record {
-      monitors-number = size;
-      monitors = λ i below. rw (counted-there i (rw size below)) (counted-monitor source amount (monitorAt x i));
-      errors-number = add-error-length source amount (x .errors) ∙ four-errors;
-      error-added = added-there source amount (x .errors) four-errors;
-      error-kept = λ k below. kept-there source amount (x .errors) k;
+      monitors-number = rw made size;
+      monitors = λ i below. rw (made, counted-there i (rw size below)) (counted-monitor source amount (monitorAt x i));
+      errors-number = rw made (add-error-length source amount (x .errors) ∙ four-errors);
+      error-added = rw made (added-there source amount (x .errors) four-errors);
+      error-kept = rw made (λ k below. kept-there source amount (x .errors) k);
       crossed = crossed source amount (x .monitors);
-      crossings = crossed-are source amount (x .monitors);
-      expander1 = refl;
-      group = refl;
-      enabled = refl;
-      change0 = refl;
-      expander2 = refl;
+      crossings = rw made (crossed-are source amount (x .monitors));
+      expander1 = rw made;
+      group = rw made;
+      enabled = rw made;
+      change0 = rw made;
+      expander2 = rw made;
     }
   where
     counted-there : (i : ℕ) → i < length (map (counted source amount) (x .monitors))
@@ -180,15 +183,16 @@ phy-one {source} {amount} {x} {y} {z} known a b =
 -- an event report that is taken, of every shelf whose arrays have their places
 pub placed-event-effect : (s : Shelf) → Placed s → (p source amount : ℕ) → event s p source amount .taken ≡ Done
     → Counted s p source amount (event s p source amount .shelf)
-unfolding event eventOn
+unfolding event eventOn event-counted
 placed-event-effect s placed p source amount done =
     let taken : eventTaken (exists s p) source amount ≡ Done = rw outcome-taken at done in
     let (h, four) = phy-placed s p placed (event-done s p source amount .0 taken .phy-exists) in
     rw taken
     (record {
-      phy = rw (put-same s p (eventOn source amount (phyAt s p) .phy) (s .changes) h) (event-counted source amount (phyAt s p) four);
+      phy = event-counted source amount (phyAt s p) _ (put-same s p (eventOn source amount (phyAt s p) .phy) (s .changes) h) four;
       only = put-only s p _ _;
       changes = refl;
+      store = refl;
     })
 
 -- For every started shelf, after any operations, and every event report that is taken.
@@ -199,4 +203,8 @@ event-effect s started = placed-event-effect s (started-placed s started)
 -- no two shelves are left by one report, whose source is supported
 pub event-one-shelf : {s t u : Shelf} {p source amount : ℕ} → T (supported source)
     → Counted s p source amount t → Counted s p source amount u → t ≡ u
-event-one-shelf known a b = same-shelf (a .only) (b .only) (phy-one known (a .phy) (b .phy)) (a .changes ∙ sym (b .changes))
+event-one-shelf {p = p} known a b =
+    let same = phy-one known (a .phy) (b .phy) in
+    let monitors = ap (λ y. y .monitors) same in
+    let crossed : a .phy .crossed ≡ b .phy .crossed = crossings-one (a .phy .crossings) (rw monitors (b .phy .crossings)) in
+    same-shelf (a .only) (b .only) same (a .changes ∙ sym (b .changes)) (cc (a .store, b .store, crossed))

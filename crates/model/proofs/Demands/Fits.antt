@@ -1,28 +1,31 @@
 -- What happens to one phy keeps the sizes and widths of its record (`specs/Fits`). Assumes nothing.
-use Prim.Native.Nat.{ℕ, zero, suc, _+_, _≤_}
+use Prim.Native.Nat.{ℕ, zero, suc, _+_, _≤_, _<_}
 use native.Mathlib.Nat.{zero-add}
 use native.Mathlib.Omega.{arith}
 use mathlib.Core.Path.{_≡_, refl, _∙_}
 use mathlib.Core.Bool.{Bool, true, false}
-use mathlib.Core.List.{List, map}
+use mathlib.Core.List.{List, [], _∷_, map}
 use borrow.Author.Tests.{ltb-true, ltb-false}
 use lib.Dec.{ltb, eqb}
-use lib.ListN.{length, getD, replicate, length-map, List·getD-eq-default}
+use lib.ListN.{length, getD, replicate, length-map, length-set, List·getD-eq-default}
 use Rattle.model.specs.declared.Effect.{Effect}
+use Rattle.model.specs.declared.Entry.{Entry}
 use Rattle.model.specs.declared.Monitor.{Monitor}
 use Rattle.model.specs.declared.Phy.{Phy}
+use Rattle.model.specs.declared.Store.{Store}
 use Rattle.model.specs.Bytes.{dword}
-use Rattle.model.specs.Counting.{originate, originateIf, originateTimes, addSaturating, counted, crossed, addError, eventOn}
-use Rattle.model.specs.Counting.{changeOn}
-use Rattle.model.specs.Fits.{BytesFit, MonitorFits, PhyFits}
-use Rattle.model.specs.Shelf.{phyWith, freshMonitor, freshPhy}
+use Rattle.model.specs.Counting.{originate, originateIf, originateTimes, addSaturating, counted, picked, crossed, addError, eventOn}
+use Rattle.model.specs.Counting.{quiet, changeOn}
+use Rattle.model.specs.Fits.{BytesFit, MonitorFits, PhyFits, EntryFits, StoreFits, InARow}
+use Rattle.model.specs.Shelf.{phyWith, freshMonitor, freshPhy, entryOf, noEntry, freshStore}
 use Rattle.model.specs.Sources.{peak}
+use Rattle.model.specs.Store.{place, countOn, store, entriesOf}
 use Rattle.model.specs.Tests.{within}
 use Rattle.model.specs.Writes.{withoutErrors, controlled, setMonitor, setMonitors, setOn, clearMonitor, anyPeak}
 use Rattle.model.specs.Writes.{clearOn, configured}
-use Rattle.model.proofs.Laws.Places.{Each, change-at, map-at, replicate-each}
-use Rattle.model.proofs.Laws.Tests.{cond-both}
-use Rattle.model.proofs.Plain.Counting.{originate-range, add-error-length}
+use Rattle.model.proofs.Laws.Places.{All, Each, each-all, change-at, map-at, replicate-each}
+use Rattle.model.proofs.Laws.Tests.{cond-by, cond-both}
+use Rattle.model.proofs.Plain.Counting.{originate-adds, originate-range, add-error-length, picked-all}
 use Rattle.model.proofs.Plain.Writes.{set-length, set-at}
 
 -- ---- counts
@@ -56,7 +59,7 @@ add-error-fits source amount errors f = (
 
 -- ---- the four monitors
 
-abbrev MonitorsFit : List Monitor → Type 0
+abbrev pub MonitorsFit : List Monitor → Type 0
 MonitorsFit ms = (length ms ≡ 4) × Each MonitorFits freshMonitor ms
 
 map-fits : (h : Monitor → Monitor) → ((m : Monitor) → MonitorFits m → MonitorFits (h m)) → (ms : List Monitor)
@@ -114,9 +117,16 @@ module _ (frame : List ℕ) (fit : BytesFit frame) where
 abbrev pub FitsOn : Phy → Phy → Type 0
 FitsOn x y = PhyFits x → PhyFits y
 
--- what is done to a phy keeps that
+-- what is done to a phy keeps that, and what may be stored of it fits
+abbrev pub EffectFits : Phy → Effect → Type 0
+EffectFits x e = PhyFits x → PhyFits (e .phy) × MonitorsFit (e .monitors)
+
 abbrev pub KeepsFit : (Phy → Effect) → Type 0
-KeepsFit f = (x : Phy) → FitsOn x (f x .phy)
+KeepsFit f = (x : Phy) → EffectFits x (f x)
+
+-- what is stored of a phy as it is afterwards
+as-left : {x : Phy} (y : Phy) → FitsOn x y → PhyFits x → PhyFits y × MonitorsFit (y .monitors)
+as-left y keeps f = let after : PhyFits y = keeps f in (after, (after .monitors-size, after .monitors))
 
 -- other numbers in it, from what each keeps
 fits-with : (x : Phy) {enabled : Bool} {errors : List ℕ} {ms : List Monitor} {change0 expander1 expander2 : ℕ}
@@ -141,34 +151,36 @@ fits-with x es fs c0 e1 e2 f =
 pub event-keeps : (source amount : ℕ) → amount ≤ 0xFFFFFFFF → KeepsFit (eventOn source amount)
 unfolding eventOn
 event-keeps source amount h x =
-    fits-with x (add-error-fits source amount (x .errors))
+    as-left _
+    (fits-with x (add-error-fits source amount (x .errors))
     (map-fits (counted source amount) (counted-fits source amount h) (x .monitors))
     (λ f. f)
     (times-fit (length (crossed source amount (x .monitors))) (x .expander1))
-    (λ f. f)
+    (λ f. f))
 
 pub change-keeps : (enabled : Bool) → KeepsFit (changeOn enabled)
 unfolding changeOn
 change-keeps enabled x =
-    fits-with x (λ f. f) (λ f. f) (originated-fits true (x .change0)) (λ f. f) (λ f. f)
+    as-left _ (fits-with x (λ f. f) (λ f. f) (originated-fits true (x .change0)) (λ f. f) (λ f. f))
 
 without-errors-keeps : (x : Phy) → FitsOn x (withoutErrors x)
 without-errors-keeps x = fits-with x (λ f. no-errors-fit) (λ f. f) (λ f. f) (λ f. f) (λ f. f)
 
--- what holds of each thing that a 91h may make of the phy
-controlled-all : (P : Phy → Type 0) (operation : ℕ) (x : Phy) → P x → ((enabled : Bool) → P (changeOn enabled x .phy))
-    → P (withoutErrors x) → P (controlled operation x .phy)
+-- what holds of each thing that a 91h may do to the phy
+pub controlled-all : (P : Effect → Type 0) (operation : ℕ) (x : Phy) → P (quiet x) → ((enabled : Bool) → P (changeOn enabled x))
+    → P (quiet (withoutErrors x)) → P (controlled operation x)
 unfolding controlled
 controlled-all P operation x none change clear =
-    cond-both (λ (e : Effect). P (e .phy)) (eqb operation 0x01) _ _ (change true)
-    (cond-both (λ (e : Effect). P (e .phy)) (eqb operation 0x03) _ _
-    (cond-both (λ (e : Effect). P (e .phy)) (x .enabled) _ _ (change false) none)
-    (cond-both (λ (e : Effect). P (e .phy)) (eqb operation 0x05) _ _ clear
+    cond-both P (eqb operation 0x01) _ _ (change true)
+    (cond-both P (eqb operation 0x03) _ _
+    (cond-both P (x .enabled) _ _ (change false) none)
+    (cond-both P (eqb operation 0x05) _ _ clear
     none))
 
 pub control-keeps : (operation : ℕ) → KeepsFit (controlled operation)
 control-keeps operation x =
-    controlled-all (FitsOn x) operation x (λ f. f) (λ enabled. change-keeps enabled x) (without-errors-keeps x)
+    controlled-all (EffectFits x) operation x (as-left x (λ f. f)) (λ enabled. change-keeps enabled x)
+    (as-left (withoutErrors x) (without-errors-keeps x))
 
 set-keeps : (frame : List ℕ) → BytesFit frame → (d : ℕ) (x : Phy) → FitsOn x (setOn frame d x)
 unfolding setOn
@@ -177,15 +189,67 @@ set-keeps frame fit d x =
 
 clear-keeps : KeepsFit clearOn
 unfolding clearOn
-clear-keeps x =
-    fits-with x (λ f. f) (map-fits clearMonitor clear-fits (x .monitors)) (λ f. f) (λ f. f)
-    (originated-fits (anyPeak (x .monitors)) (x .expander2))
+clear-keeps x f = (
+  fits-with x (λ f. f) (map-fits clearMonitor clear-fits (x .monitors)) (λ f. f) (λ f. f)
+      (originated-fits (anyPeak (x .monitors)) (x .expander2))
+      f,
+  (f .monitors-size, f .monitors),
+)
 
 pub configure-keeps : (frame : List ℕ) → BytesFit frame → (d : ℕ) (clear : Bool) → KeepsFit (configured frame d clear)
 unfolding configured
 configure-keeps frame fit d clear x =
     let set : FitsOn x (setOn frame d x) = set-keeps frame fit d x in
-    cond-both (λ (e : Effect). FitsOn x (e .phy)) clear _ _ (λ f. clear-keeps (setOn frame d x) (set f)) set
+    cond-both (EffectFits x) clear _ _ (λ f. clear-keeps (setOn frame d x) (set f)) (as-left (setOn frame d x) set)
+
+-- ---- the stored peak events
+
+entry-fits : (p : ℕ) → p < 24 → (ms : List Monitor) → All MonitorFits ms → All EntryFits (map (entryOf p) ms)
+entry-fits p below [] all = tt
+entry-fits p below (m ∷ ms) all = (record { phy = omega arith; monitor = all .0 }, entry-fits p below ms (all .1))
+
+-- what an effect stores of a phy that fits
+pub entries-fit : (p : ℕ) → p < 24 → (e : Effect) → MonitorsFit (e .monitors) → All EntryFits (entriesOf p e)
+entries-fit p below e f =
+    entry-fits p below (picked (e .stored) (e .monitors))
+    (picked-all MonitorFits (e .stored) (e .monitors) (each-all MonitorFits freshMonitor (e .monitors) (f .1)))
+
+count-on-fits : (count : ℕ) → count ≤ 0xFFFFFFFF → countOn count ≤ 0xFFFFFFFF
+count-on-fits count h = cond-by (λ n. n ≤ 0xFFFFFFFF) (ltb count 32) _ _ (λ e. omega (arith, ltb-true count 32 e)) (λ e. omega arith)
+
+pub store-fits : (k : Store) (e : Entry) → EntryFits e → StoreFits k → StoreFits (store k e)
+unfolding store
+store-fits k e entry f =
+    record {
+      last = originate-range (k .last) (f .last) .1;
+      count = count-on-fits (k .count) (f .count);
+      entries-size = length-set (k .entries) (place k) e ∙ f .entries-size;
+      entries = λ i. change-at EntryFits noEntry (λ _. e) (λ _ _. entry) (k .entries) (place k) i (f .entries i);
+    }
+
+-- indexes stay in a row
+pub store-in-a-row : (k : Store) (e : Entry) → k .last ≤ 0xFFFF → InARow k → InARow (store k e)
+unfolding store
+store-in-a-row k e fits row = go (ltb (k .count) 32) refl
+  where
+    some : 1 ≤ originate (k .last)
+    some = originate-range (k .last) fits .0
+
+    go : (b : Bool) → ltb (k .count) 32 ≡ b → InARow (store k e)
+    go true h =
+        let below : k .count < 32 = ltb-true (k .count) 32 h in
+        let next : originate (k .last) ≡ k .last + 1 = originate-adds (k .last) (omega (arith, row .few below)) in
+        rw h (record { few = λ l. omega (arith, row .few below); full = λ l. (omega arith, some) })
+    go false h = rw h (record { few = λ l. absurd (omega arith); full = λ l. (omega arith, some) })
+
+pub fresh-store-fits : StoreFits freshStore
+fresh-store-fits =
+    record {
+      last = omega arith;
+      count = omega arith;
+      entries-size = refl;
+      entries = replicate-each EntryFits noEntry 32 (omega arith);
+    }
 
 -- ---- a fresh phy
 
@@ -222,7 +286,8 @@ unfolding changeOn
 change-four enabled x f = f
 
 pub control-four : (operation : ℕ) → KeepsFour (controlled operation)
-control-four operation x f = controlled-all Four operation x f (λ enabled. change-four enabled x f) (refl, f .1)
+control-four operation x f =
+    controlled-all (λ e. Four (e .phy)) operation x f (λ enabled. change-four enabled x f) (refl, f .1)
 
 pub configure-four : (frame : List ℕ) (d : ℕ) (clear : Bool) → KeepsFour (configured frame d clear)
 unfolding configured setOn clearOn

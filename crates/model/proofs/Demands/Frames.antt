@@ -10,35 +10,40 @@ use borrow.Author.Tests.{ltb-true, ltb-false, eqb-true}
 use lib.Dec.{T, ltb, eqb}
 use lib.ListN.{length, take, drop, length-append, List·getD-eq-default}
 use lib.Seq.{sets, length-sets}
+use Rattle.model.specs.declared.Entry.{Entry}
 use Rattle.model.specs.declared.FunctionResult.{FunctionResult}
 use Rattle.model.specs.declared.FunctionResult.the-variants.{Accepted, UnknownSmpFunction, SmpFunctionFailed}
 use Rattle.model.specs.declared.FunctionResult.the-variants.{InvalidRequestFrameLength, InvalidExpanderChangeCount}
 use Rattle.model.specs.declared.FunctionResult.the-variants.{PhyDoesNotExist, UnknownPhyOperation, PhyVacant}
 use Rattle.model.specs.declared.FunctionResult.the-variants.{UnknownPhyEventSource, SmpZoneViolation}
+use Rattle.model.specs.declared.FunctionResult.the-variants.{NoManagementAccessRights}
 use Rattle.model.specs.declared.Phy.{Phy}
 use Rattle.model.specs.declared.Request.{Request}
 use Rattle.model.specs.declared.Request.the-variants.{ReportGeneral, ReportManufacturer, ReportBroadcast}
-use Rattle.model.specs.declared.Request.the-variants.{ReportPhyErrorLog, ReportPhyEvent, PhyControl, ConfigurePhyEvent}
+use Rattle.model.specs.declared.Request.the-variants.{ReportPhyErrorLog, ReportPhyEvent, ReportPhyEventList, PhyControl, ConfigurePhyEvent}
 use Rattle.model.specs.declared.Shelf.{Shelf}
+use Rattle.model.specs.declared.Store.{Store}
 use Rattle.model.specs.Bytes.{byte, one}
-use Rattle.model.specs.Fits.{BytesFit, Fits}
+use Rattle.model.specs.Fits.{BytesFit, EntryFits, Fits}
 use Rattle.model.specs.Reply.{failed, response, changeCount, reportGeneral, reportManufacturer, reportPhyErrorLog}
 use Rattle.model.specs.Reply.{monitorAt, reportPhyEvent, Broadcast, listed, deviceListed, phyListed, seenListed}
-use Rattle.model.specs.Reply.{broadcasts, broadcastBytes, reportBroadcast, respond}
+use Rattle.model.specs.Reply.{descriptors, broadcastDescriptor, broadcasts, reportBroadcast, entryDescriptor, reportPhyEventList, respond}
 use Rattle.model.specs.Request.{functionOf, known, asked}
 use Rattle.model.specs.Results.{resultCode}
 use Rattle.model.specs.Server.{Sends, handle}
 use Rattle.model.specs.Shelf.{phyNumber, noPhy, phyAt, freshMonitor}
+use Rattle.model.specs.Store.{returned}
 use Rattle.model.specs.Zone.{row, rowReaches}
 use Rattle.model.proofs.Laws.Handled.{verdict, sent-all, accepted-decided}
 use Rattle.model.proofs.Laws.Join.{join-few}
-use Rattle.model.proofs.Laws.Places.{All, all-each, each-all, cut-each, sets-each, sets-before, replicate-each}
+use Rattle.model.proofs.Laws.Places.{All, all-append, all-each, each-all, cut-each, sets-each, sets-before, replicate-each}
 use Rattle.model.proofs.Laws.Tests.{cond-both}
-use Rattle.model.proofs.Plain.Reply.{broadcast-bytes-length, ofPhy, listed-iff, kept-small}
+use Rattle.model.proofs.Plain.Reply.{broadcast-bytes-length, entry-bytes-length, ofPhy, listed-iff, kept-small}
 use Rattle.model.proofs.Plain.Request.{by-function}
+use Rattle.model.proofs.Plain.Store.{returned-few, returned-all}
 
 -- "Response byte 0 is 41h, byte 1 the function, byte 2 the result, byte 3 the number of dwords that follow." The longest is a 06h, of 8 bytes
--- and 49 descriptors of 8; 1,028 are lent.
+-- and 49 descriptors of 8; a 21h has 12 and at most 32 descriptors of 12; 1,028 are lent.
 pub record Framed (function result : ℕ) (bytes : List ℕ) : Type 0 where
   pub byte-0 : byte bytes 0 ≡ 0x41
   pub byte-1 : byte bytes 1 ≡ function
@@ -53,6 +58,7 @@ requestFunction ReportManufacturer = 0x01
 requestFunction (ReportBroadcast kind) = 0x06
 requestFunction (ReportPhyErrorLog p) = 0x11
 requestFunction (ReportPhyEvent p) = 0x14
+requestFunction (ReportPhyEventList start) = 0x21
 requestFunction (PhyControl expected p operation) = 0x91
 requestFunction (ConfigurePhyEvent expected clear p d) = 0x93
 
@@ -108,20 +114,27 @@ sets-framed function result bytes values place past framed =
 -- every accepted response, of any shelf
 pub respond-framed : (s : Shelf) (g : ℕ) (request : Request)
     → Framed (requestFunction request) 0x00 (respond s g request)
-unfolding respond reportGeneral reportManufacturer reportBroadcast reportPhyErrorLog reportPhyEvent
+unfolding respond reportGeneral reportManufacturer reportBroadcast reportPhyErrorLog reportPhyEvent reportPhyEventList
 respond-framed s g ReportGeneral = sets-framed 0x00 0x00 _ (s .identifier) 12 (omega arith) (omega arith)
 respond-framed s g ReportManufacturer = omega arith
 respond-framed s g (ReportBroadcast kind) =
     omega (arith, broadcasts-few s g kind, broadcast-bytes-length (broadcasts s g kind))
 respond-framed s g (ReportPhyErrorLog p) = omega arith
 respond-framed s g (ReportPhyEvent p) = omega arith
+respond-framed s g (ReportPhyEventList start) =
+    omega (arith, returned-few (s .store) start, entry-bytes-length (returned (s .store) start))
 respond-framed s g (PhyControl expected p operation) = omega arith
 respond-framed s g (ConfigurePhyEvent expected clear p d) = omega arith
+
+-- #101: a response to 21h has at most 396 bytes, of any store
+pub event-list-longest : (changes : ℕ) (k : Store) (start : ℕ) → length (reportPhyEventList changes k start) ≤ 396
+unfolding reportPhyEventList
+event-list-longest changes k start = omega (arith, returned-few k start, entry-bytes-length (returned k start))
 
 -- a frame of a known function asks for that function
 asked-function : (frame : List ℕ) → T (known (functionOf frame)) → requestFunction (asked frame) ≡ functionOf frame
 asked-function frame t =
-    by-function frame (λ function request. requestFunction request ≡ function) t refl refl refl refl refl refl refl
+    by-function frame (λ function request. requestFunction request ≡ function) t refl refl refl refl refl refl refl refl
 
 -- Every response. `handle .. .reply` is the bytes that `lentAfter` puts at the front of the lent buffer, and whose number `served` tells.
 -- A failed one too: "A failed response is 41h, the function, the result, 00h."
@@ -155,6 +168,7 @@ result-small UnknownPhyOperation = omega arith
 result-small PhyVacant = omega arith
 result-small UnknownPhyEventSource = omega arith
 result-small SmpZoneViolation = omega arith
+result-small NoManagementAccessRights = omega arith
 
 -- what a response repeats of its request: the type (06h) or the phy (11h and 14h)
 abbrev repeated : Request → ℕ
@@ -163,6 +177,7 @@ repeated ReportManufacturer = 0x00
 repeated (ReportBroadcast kind) = kind
 repeated (ReportPhyErrorLog p) = p
 repeated (ReportPhyEvent p) = p
+repeated (ReportPhyEventList start) = 0x00
 repeated (PhyControl expected p operation) = 0x00
 repeated (ConfigurePhyEvent expected clear p d) = 0x00
 
@@ -174,7 +189,8 @@ repeated-small frame fit =
     (either 0x06 _ _ (fit 2)
     (either 0x11 _ _ (fit 9)
     (either 0x14 _ _ (fit 9)
-    (either 0x91 _ _ zero-le zero-le)))))
+    (either 0x21 _ _ zero-le
+    (either 0x91 _ _ zero-le zero-le))))))
   where
     either : (k : ℕ) (a b : Request) → Small (repeated a) → Small (repeated b)
         → Small (repeated (cond (eqb (functionOf frame) k) a b))
@@ -190,16 +206,26 @@ source-small s fits p i = go (ltb p 24) refl
         rw (List·getD-eq-default (s .phys) noPhy {n = p} (omega (arith, ltb-false p 24 e)))
         (replicate-each (λ m. Small (m .source)) freshMonitor 4 zero-le i)
 
-broadcast-bytes-fit : (bs : List Broadcast) → ((b : Broadcast) → List·Memᴰ b bs → Small (b .phy) × (b .reason < 4))
-    → BytesFit (broadcastBytes bs)
-unfolding broadcastBytes
-broadcast-bytes-fit [] small = λ i. zero-le
-broadcast-bytes-fit (b ∷ bs) small =
-    cut-each Small 0x00 8 (broadcastBytes (b ∷ bs)) (omega (arith, small b (List·Memᴰ·head refl)))
-    (broadcast-bytes-fit bs (λ c m. small c (List·Memᴰ·tail m)))
+-- descriptors whose bytes fit
+descriptors-small : {A : Type 0} (of : A → List ℕ) (xs : List A) → All (λ x. All Small (of x)) xs → All Small (descriptors of xs)
+unfolding descriptors
+descriptors-small of [] all = tt
+descriptors-small of (x ∷ xs) all = all-append Small (of x) (descriptors of xs) (all .0) (descriptors-small of xs (all .1))
+
+descriptors-fit : {A : Type 0} (of : A → List ℕ) (xs : List A) → All (λ x. All Small (of x)) xs → BytesFit (descriptors of xs)
+descriptors-fit of xs all = all-each Small 0x00 (descriptors of xs) zero-le (descriptors-small of xs all)
+
+broadcasts-fit : (bs : List Broadcast) → ((b : Broadcast) → List·Memᴰ b bs → Small (b .phy) × (b .reason < 4))
+    → All (λ b. All Small (broadcastDescriptor b)) bs
+broadcasts-fit [] small = tt
+broadcasts-fit (b ∷ bs) small =
+    (omega (arith, small b (List·Memᴰ·head refl)), broadcasts-fit bs (λ c m. small c (List·Memᴰ·tail m)))
+
+entry-fits : (e : Entry) → EntryFits e → All Small (entryDescriptor e)
+entry-fits e f = omega (arith, f .phy, f .monitor .source)
 
 respond-fits : (s : Shelf) (g : ℕ) (request : Request) → Fits s → Small (repeated request) → BytesFit (respond s g request)
-unfolding respond reportGeneral reportManufacturer reportBroadcast reportPhyErrorLog reportPhyEvent
+unfolding respond reportGeneral reportManufacturer reportBroadcast reportPhyErrorLog reportPhyEvent reportPhyEventList
 respond-fits s g ReportGeneral fits small =
     let before : List ℕ = response 0x00 36 0x08 (changeCount (s .changes) ∷ (9, one (phyNumber s)) ∷ []) in
     sets-each Small 0x00 (s .identifier) before 12 (each-all Small 0x00 (s .identifier) (fits .identifier))
@@ -207,13 +233,19 @@ respond-fits s g ReportGeneral fits small =
 respond-fits s g ReportManufacturer fits small = fits-by (reportManufacturer (s .changes)) (omega arith) (omega arith)
 respond-fits s g (ReportBroadcast kind) fits small =
     cut-each Small 0x00 8 (reportBroadcast s g kind) (omega (arith, broadcasts-few s g kind))
-    (broadcast-bytes-fit (broadcasts s g kind)
+    (descriptors-fit broadcastDescriptor (broadcasts s g kind)
+    (broadcasts-fit (broadcasts s g kind)
     (λ b m.
-    kept-small s kind (b .phy) (b .reason) (b .count) (listed-iff s g kind (b .phy) (b .reason) (b .count) .0 m .0)))
+    kept-small s kind (b .phy) (b .reason) (b .count) (listed-iff s g kind (b .phy) (b .reason) (b .count) .0 m .0))))
 respond-fits s g (ReportPhyErrorLog p) fits small = fits-by (reportPhyErrorLog (s .changes) p (phyAt s p)) (omega arith) tt
 respond-fits s g (ReportPhyEvent p) fits small =
     let source : (i : ℕ) → Small (monitorAt (phyAt s p) i .source) = source-small s fits p in
     fits-by (reportPhyEvent (s .changes) p (phyAt s p)) (omega (arith, source 0, source 1)) (omega (arith, source 2, source 3))
+respond-fits s g (ReportPhyEventList start) fits small =
+    let es : List Entry = returned (s .store) start in
+    cut-each Small 0x00 12 (reportPhyEventList (s .changes) (s .store) start) (omega (arith, returned-few (s .store) start))
+    (descriptors-fit entryDescriptor es
+    (returned-all (λ e. All Small (entryDescriptor e)) (s .store) start (λ i. entry-fits _ (fits .store .entries i))))
 respond-fits s g (PhyControl expected p operation) fits small = fits-by (response 0x91 4 0x00 []) (omega arith) tt
 respond-fits s g (ConfigurePhyEvent expected clear p d) fits small = fits-by (response 0x93 4 0x00 []) (omega arith) tt
 

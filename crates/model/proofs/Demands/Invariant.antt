@@ -1,30 +1,34 @@
--- A start gives a shelf whose numbers fit their widths, with 1 to 24 phys, groups up to 31, a legal table and a change count that is not
--- 0000h, and every operation keeps that, where what they are given has its sizes and widths. That a shelf's arrays have their places holds
+-- A start gives a shelf whose numbers fit their widths, with 1 to 24 phys, groups up to 31, a legal table, a change count that is not
+-- 0000h, and stored peak events whose indexes run in a row, and every operation keeps that, where what they are given has its sizes and widths. That a shelf's arrays have their places holds
 -- whatever they are given. Assumes nothing.
 use Prim.Native.Nat.{ℕ, _≤_, _<_, zero-le}
 use native.Mathlib.Omega.{arith}
-use mathlib.Core.Path.{_≡_, subst, _∙_}
+use mathlib.Core.Path.{_≡_, refl, subst, _∙_}
 use mathlib.Core.Bool.{Bool}
 use mathlib.Core.List.{List, [], _∷_}
 use borrow.Author.Tests.{ltb-true}
 use lib.Dec.{T, ltb}
 use lib.ListN.{length, getD}
+use Rattle.model.specs.declared.Effect.{Effect}
+use Rattle.model.specs.declared.Phy.{Phy}
 use Rattle.model.specs.declared.Shelf.{Shelf}
 use Rattle.model.specs.declared.Taken.the-variants.{Done}
 use Rattle.model.specs.Counting.{originateIf}
-use Rattle.model.specs.Fits.{Fits, Placed, StartFits, OperationFits, AllFit, Sound}
+use Rattle.model.specs.Fits.{EntryFits, StoreFits, Fits, Placed, StartFits, OperationFits, AllFit, InARow, Sound}
 use Rattle.model.specs.Reach.{reaches}
 use Rattle.model.specs.Runs.{Operation, Ask, Event, LinkChange, ReducedFunctionality, Ses, QueryReach, next, after}
 use Rattle.model.specs.Request.{asked}
 use Rattle.model.specs.Runs.{Started}
+use Rattle.model.specs.Store.{entriesOf}
 use Rattle.model.specs.Shelf.{exists, phyAt, startGroup, freshShelf, noShelf, startTaken, start}
 use Rattle.model.proofs.Demands.Fits.{FitsOn, KeepsFit, fresh-fits, Four, KeepsFour, event-four, change-four, control-four}
 use Rattle.model.proofs.Demands.Fits.{configure-four, originated-fits, originated-present, event-keeps, change-keeps, control-keeps}
-use Rattle.model.proofs.Demands.Fits.{configure-keeps}
+use Rattle.model.proofs.Demands.Fits.{configure-keeps, entries-fit, store-fits, store-in-a-row, fresh-store-fits}
 use Rattle.model.proofs.Laws.Checks.{every-outcome}
 use Rattle.model.proofs.Laws.PhyChanges.{every-write}
+use Rattle.model.proofs.Laws.Places.{All}
 use Rattle.model.proofs.Laws.Steps.{Step, KeptBy, every-change, next-step, step-fixed, step-phys, DeviceCounts, step-counts}
-use Rattle.model.proofs.Laws.Steps.{SameZones, next-zones}
+use Rattle.model.proofs.Laws.Steps.{step-store, SameZones, next-zones}
 use Rattle.model.proofs.Laws.Tests.{cond-by}
 use Rattle.model.proofs.Plain.Reach.{exists-iff, reaches-nothing}
 use Rattle.model.proofs.Plain.Shelf.{SameFixed}
@@ -44,6 +48,12 @@ fit-kept (QueryReach g) fit = tt
 count-fits : (before after : ℕ) → (b : Bool) × (after ≡ originateIf b before) → before ≤ 0xFFFF → after ≤ 0xFFFF
 count-fits before after (b, e) h = rw e (originated-fits b before h)
 
+-- what is stored of a phy that exists fits
+stored-fit : (s : Shelf) → Fits s → (p : ℕ) (f : Phy → Effect) → T (exists s p) → KeepsFit f → All EntryFits (entriesOf p (f (phyAt s p)))
+stored-fit s fits p f there keeps =
+    let (_, below) = exists-iff s p .0 there in
+    entries-fit p below (f (phyAt s p)) (keeps (phyAt s p) (fits .phys p below) .1)
+
 module _ (s t : Shelf) (step : Step KeepsFit s t) where
   step-fits : Fits s → Fits t
   step-fits f =
@@ -53,7 +63,7 @@ module _ (s t : Shelf) (step : Step KeepsFit s t) where
         number = rw (fixed .number) (f .number);
         phys-size = counts .size ∙ f .phys-size;
         phys = λ p below.
-            step-phys KeepsFit FitsOn (λ x fit. fit) (λ h keeps x y kept fit. keeps y (kept fit)) s t step p (f .phys p below);
+            step-phys KeepsFit FitsOn (λ x fit. fit) (λ h keeps x y kept fit. keeps y (kept fit) .0) s t step p (f .phys p below);
         table-size = rw (fixed .table) (f .table-size);
         table = rw (fixed .table) (f .table);
         identifier-size = rw (fixed .identifier) (f .identifier-size);
@@ -61,7 +71,20 @@ module _ (s t : Shelf) (step : Step KeepsFit s t) where
         changes = count-fits (s .changes) (t .changes) (counts .changes) (f .changes);
         expander3 = count-fits (s .expander3) (t .expander3) (counts .expander3) (f .expander3);
         ses0 = count-fits (s .ses0) (t .ses0) (counts .ses0) (f .ses0);
+        store = step-store KeepsFit StoreFits EntryFits store-fits s t (stored-fit s f) step (f .store);
       }
+
+  -- the stored peak events fit, and have indexes in a row
+  step-row : Fits s → InARow (s .store) → InARow (t .store)
+  step-row f row =
+      step-store KeepsFit (λ k. StoreFits k × InARow k) EntryFits
+      (λ k e entry (fits, before). (store-fits k e entry fits, store-in-a-row k e (fits .last) before))
+      s
+      t
+      (stored-fit s f)
+      step
+      (f .store, row)
+      .1
 
   step-present : Fits s → 1 ≤ s .changes → 1 ≤ t .changes
   step-present f some =
@@ -81,6 +104,7 @@ next-sound s o fit sound =
       groups = λ p below. rw (zones .groups p) (sound .groups p below);
       legal = rw (zones .fixed .table) (sound .legal);
       present = step-present s (next s o) step (sound .fits) (sound .present);
+      in-a-row = step-row s (next s o) step (sound .fits) (sound .in-a-row);
     }
 
 pub after-sound : (s : Shelf) (operations : List Operation) → AllFit operations → Sound s → Sound (after s operations)
@@ -114,11 +138,13 @@ fresh-sound n groups table identifier fit can =
             changes = omega arith;
             expander3 = omega arith;
             ses0 = omega arith;
+            store = fresh-store-fits;
           };
       number = can .number;
       groups = λ p below. rw (fresh-phys n groups table identifier p below) (group p);
       legal = legal-table table .1 (can .legal);
       present = omega arith;
+      in-a-row = record { few = λ l. refl; full = λ l. absurd (omega arith) };
     }
 
 pub start-sound : (n : ℕ) (groups table identifier : List ℕ) → StartFits table identifier

@@ -9,13 +9,13 @@ use lib.Dec.{eqb}
 use lib.ListN.{length}
 use Rattle.model.specs.declared.Request.{Request}
 use Rattle.model.specs.declared.Request.the-variants.{ReportGeneral, ReportManufacturer, ReportBroadcast}
-use Rattle.model.specs.declared.Request.the-variants.{ReportPhyErrorLog, ReportPhyEvent, PhyControl, ConfigurePhyEvent}
+use Rattle.model.specs.declared.Request.the-variants.{ReportPhyErrorLog, ReportPhyEvent, ReportPhyEventList, PhyControl, ConfigurePhyEvent}
 use Rattle.model.specs.declared.Shelf.{Shelf}
 use Rattle.model.specs.declared.Taken.{Taken}
 use Rattle.model.specs.Counting.{originate, eventOn}
 use Rattle.model.specs.Reach.{reaches, reachSet, reachNumber, reachQuery}
 use Rattle.model.specs.Reply.{deviceListed, phyListed, broadcasts, broadcastFrame, reportGeneral, reportManufacturer}
-use Rattle.model.specs.Reply.{reportBroadcast, reportPhyErrorLog, reportPhyEvent, respond}
+use Rattle.model.specs.Reply.{reportBroadcast, reportPhyErrorLog, reportPhyEvent, reportPhyEventList, respond}
 use Rattle.model.specs.Reports.{eventTaken, event, linkChangeTaken, linkChangeOn, linkChange, reducedFunctionality, sesNotice}
 use Rattle.model.specs.Request.{asked}
 use Rattle.model.specs.Results.{accepted, grounds, resultOf, decide}
@@ -25,8 +25,8 @@ use Rattle.model.specs.Server.{Handled, Sends, handle, lent, answer, ser
 use Rattle.model.specs.Shelf.{phyNumber, exists, shelfWith, outcome}
 use Rattle.model.specs.Tests.{joinBelow}
 use Rattle.model.specs.Writes.{Doing, Reads, WritesTo, doing, done, effect}
-use Rattle.model.proofs.Demands.Looks.{looks, looks-reaches, looks-reached, looks-twice, looks-change}
-use Rattle.model.proofs.Laws.Checks.{both-outcomes, read-passed}
+use Rattle.model.proofs.Demands.Looks.{looks, looks-reaches, looks-reached, looks-store, looks-twice, looks-change}
+use Rattle.model.proofs.Laws.Checks.{both-outcomes, read-passed, management-passed}
 use Rattle.model.proofs.Laws.Handled.{verdict, both-handled, both-concluded, accepted-decided}
 use Rattle.model.proofs.Laws.PhyChanges.{OfWrite, every-write, Inner, event-inner, link-change-inner}
 use Rattle.model.proofs.Laws.PhyChanges.{configured-inner, enablesBy, originatesBy, controlled-inner}
@@ -82,6 +82,8 @@ module _ (g : ℕ) (s : Shelf) where
   looks-respond frame (ReportBroadcast kind) e = ap (broadcastFrame (s .changes) kind) (looks-broadcasts kind)
   looks-respond frame (ReportPhyErrorLog p) e = ap (reportPhyErrorLog (s .changes) p) (looks-reached g s p (read-passed (grounds s g p) e .1))
   looks-respond frame (ReportPhyEvent p) e = ap (reportPhyEvent (s .changes) p) (looks-reached g s p (read-passed (grounds s g p) e .1))
+  looks-respond frame (ReportPhyEventList start) e =
+      ap (λ k. reportPhyEventList (s .changes) k start) (looks-store g s (eqb-true g 1 (management-passed (grounds s g 0) e)))
   looks-respond frame (PhyControl expected p operation) e = refl
   looks-respond frame (ConfigurePhyEvent expected clear p d) e = refl
 
@@ -132,9 +134,9 @@ module _ (g : ℕ) (s : Shelf) where
       looks-outcome (linkChangeTaken (exists s p)) _ _
       (looks-change g s p linkChangeOn link-change-inner)
   looks-next ReducedFunctionality =
-      ap (λ t. shelfWith t (t .phys) (t .changes) (originate (s .expander3)) (t .ses0)) (looks-twice g s)
+      ap (λ t. shelfWith t (t .phys) (t .changes) (originate (s .expander3)) (t .ses0) (t .store)) (looks-twice g s)
   looks-next Ses =
-      ap (λ t. shelfWith t (t .phys) (t .changes) (t .expander3) (originate (s .ses0))) (looks-twice g s)
+      ap (λ t. shelfWith t (t .phys) (t .changes) (t .expander3) (originate (s .ses0)) (t .store)) (looks-twice g s)
   looks-next (QueryReach h) = looks-twice g s
 
   -- what g is told: the same of its own, and nothing of another's

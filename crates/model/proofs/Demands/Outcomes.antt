@@ -5,10 +5,10 @@
 use Prim.Native.Nat.{ℕ, _≤_, _<_}
 use native.Mathlib.Nat.{eq-zero-or-pos}
 use native.Mathlib.Omega.{arith}
-use mathlib.Core.Path.{_≡_, refl, sym, _∙_}
+use mathlib.Core.Path.{_≡_, refl, sym, ap, subst, _∙_}
 use mathlib.Core.Logic.{_⊎_, inl, inr}
 use mathlib.Core.Bool.{Bool, true, false, cond}
-use mathlib.Core.List.{List, [], _∷_}
+use mathlib.Core.List.{List, [], _∷_, map}
 use borrow.Author.Tests.{ltb-true, ltb-false, eq-eqb, ne-eqb}
 use lib.Dec.{ltb, eqb}
 use Rattle.model.specs.declared.House.the-variants.{SourceGroup}
@@ -18,12 +18,13 @@ use Rattle.model.specs.declared.Shelf.{Shelf}
 use Rattle.model.specs.declared.Taken.{Taken}
 use Rattle.model.specs.declared.Taken.the-variants.{Done, NotDone}
 use Rattle.model.specs.Bytes.{byte}
-use Rattle.model.specs.Counting.{originate, eventOn, changeOn}
+use Rattle.model.specs.Counting.{originate, crossed, eventOn, changeOn}
 use Rattle.model.specs.House.{houseNumber, takenNumber, answerNumber}
 use Rattle.model.specs.Reach.{reachSet, reachNumber, reachQuery}
 use Rattle.model.specs.Reports.{eventTaken, event, linkChangeTaken, linkChangeOn, linkChange, reducedFunctionality, sesNotice}
 use Rattle.model.specs.Server.{served, lentAfter}
-use Rattle.model.specs.Shelf.{exists, phyAt, put, putDevice, freshShelf, noShelf, outcome, startTaken, start}
+use Rattle.model.specs.Shelf.{exists, phyAt, put, putDevice, putStore, entryOf, freshShelf, noShelf, outcome, startTaken, start}
+use Rattle.model.specs.Store.{storeAll}
 use Rattle.model.proofs.Demands.Refusals.{startRefusals, requestRefusals, phyRefusal, eventRefusals, start-gives}
 use Rattle.model.proofs.Demands.Refusals.{request-gives, event-gives, link-change-gives, request-refusal}
 use Rattle.model.proofs.Demands.Results.{failures, NotRefused, result-drawn, Failed, failed-result, Granted}
@@ -32,6 +33,7 @@ use Rattle.model.proofs.Laws.Checks.{house-some}
 use Rattle.model.proofs.Laws.Drawn.{Draws}
 use Rattle.model.proofs.Laws.Lowest.{Applies, Lowest, Gives}
 use Rattle.model.proofs.Plain.Reach.{reach-answered, reach-refused}
+use Rattle.model.proofs.Plain.Writes.{change-stores}
 
 -- ---- A request is refused, or it fails, or it is accepted.
 
@@ -114,7 +116,10 @@ every-start n groups table identifier =
     (start-gives n groups table identifier)
 
 pub every-event : (s : Shelf) (p source amount : ℕ)
-    → TakenEnds (eventRefusals s p source amount) 7 s (put s p (eventOn source amount (phyAt s p) .phy) (s .changes)) (event s p source amount)
+    → TakenEnds (eventRefusals s p source amount) 7 s
+    (putStore (put s p (eventOn source amount (phyAt s p) .phy) (s .changes))
+    (storeAll (s .store) (map (entryOf p) (crossed source amount (phyAt s p .monitors)))))
+    (event s p source amount)
 unfolding event eventOn
 every-event s p source amount =
     every-taken (eventRefusals s p source amount) 7 (eventTaken (exists s p) source amount) s _ (event-gives s p source amount)
@@ -123,7 +128,10 @@ pub every-link-change : (s : Shelf) (p : ℕ)
     → TakenEnds (phyRefusal s p ∷ []) 7 s (put s p (linkChangeOn (phyAt s p) .phy) (originate (s .changes))) (linkChange s p)
 unfolding linkChange changeOn
 every-link-change s p =
-    every-taken (phyRefusal s p ∷ []) 7 (linkChangeTaken (exists s p)) s _ (link-change-gives s p)
+    let new : Shelf = put s p (linkChangeOn (phyAt s p) .phy) (originate (s .changes)) in
+    subst (λ t. TakenEnds (phyRefusal s p ∷ []) 7 s t (linkChange s p))
+    (ap (putStore new) (change-stores (s .store) p (phyAt s p .enabled) (phyAt s p)))
+    (every-taken (phyRefusal s p ∷ []) 7 (linkChangeTaken (exists s p)) s _ (link-change-gives s p))
 
 -- ---- A reach query is refused with H4, or answered with both numbers; a device notice is always done.
 

@@ -8,7 +8,7 @@ use Rattle.model.specs.CrossedOut.{crossedOut, remains}
 use Rattle.model.specs.Runs.{Operation, Told, next, told, answers}
 use Rattle.model.proofs.Demands.Looks.{looks}
 use Rattle.model.proofs.Demands.OneOperation.{looks-next, looks-told}
-use Rattle.model.proofs.Demands.Unseen.{crossed-unseen, crossed-untold, crossed-zones}
+use Rattle.model.proofs.Demands.Unseen.{OneReachesAll, reaches-all-zones, crossed-unseen, crossed-untold, crossed-zones}
 use Rattle.model.proofs.Laws.Steps.{SameZones, next-zones, zones-on}
 use Rattle.model.proofs.Laws.Tests.{cond-by}
 
@@ -36,24 +36,24 @@ same-answers g s t (operation ∷ operations) e =
 
 -- One operation: s₀ is the shelf at which the crossing-out is judged, s the one where the run stands. Crossed out, it tells g nothing,
 -- and the shelf looks as before.
-remains-step : (g : ℕ) (s₀ s : Shelf) (operation : Operation) (operations : List Operation) → SameZones s₀ s
+remains-step : (g : ℕ) (s₀ s : Shelf) (operation : Operation) (operations : List Operation) → OneReachesAll g s₀ → SameZones s₀ s
     → answers g (next s operation) operations ≡ answers g (next s operation) (remains g s₀ operations)
     → answers g s (operation ∷ operations) ≡ answers g s (remains g s₀ (operation ∷ operations))
 unfolding answers remains
-remains-step g s₀ s operation operations zones later =
+remains-step g s₀ s operation operations all zones later =
     let rest : List Operation = remains g s₀ operations in
     cond-by (λ left. told g s operation ++ answers g (next s operation) operations ≡ answers g s left) (crossedOut g s₀ operation) rest (operation ∷ rest)
     (λ e.
     let crossed : T (crossedOut g s operation) = rw (crossed-zones g s₀ s operation zones, e) tt in
     ap (λ first. first ++ answers g (next s operation) operations) (crossed-untold g s operation crossed)
     ∙ later
-    ∙ same-answers g (next s operation) s rest (crossed-unseen g s operation crossed))
+    ∙ same-answers g (next s operation) s rest (crossed-unseen g s (reaches-all-zones g s₀ s zones all) operation crossed))
     (λ e. ap (λ then. told g s operation ++ then) later)
 
-pub remains-answers : (g : ℕ) (s₀ s : Shelf) (operations : List Operation) → SameZones s₀ s
+pub remains-answers : (g : ℕ) (s₀ s : Shelf) (operations : List Operation) → OneReachesAll g s₀ → SameZones s₀ s
     → answers g s operations ≡ answers g s (remains g s₀ operations)
 unfolding remains
-remains-answers g s₀ s [] zones = refl
-remains-answers g s₀ s (operation ∷ operations) zones =
-    remains-step g s₀ s operation operations zones
-    (remains-answers g s₀ (next s operation) operations (zones-on s₀ s (next s operation) zones (next-zones s operation)))
+remains-answers g s₀ s [] all zones = refl
+remains-answers g s₀ s (operation ∷ operations) all zones =
+    remains-step g s₀ s operation operations all zones
+    (remains-answers g s₀ (next s operation) operations all (zones-on s₀ s (next s operation) zones (next-zones s operation)))

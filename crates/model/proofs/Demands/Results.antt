@@ -46,10 +46,12 @@ SourcesAllowed frame =
 
 abbrev pub failures : Shelf → ℕ → List ℕ → List (ℕ × Type 0)
 failures s g frame =
-    -- 1. "01h UNKNOWN SMP FUNCTION: not 00h, 01h, 06h, 11h, 14h, 91h or 93h."
-    (0x01, Of (0x00 ∷ 0x01 ∷ 0x06 ∷ 0x11 ∷ 0x14 ∷ 0x91 ∷ 0x93 ∷ []) frame → ⊥)
+    -- 1. "01h UNKNOWN SMP FUNCTION: not 00h, 01h, 06h, 11h, 14h, 91h or 93h." #101: "function 21h joins the known functions".
+    (0x01, Of (0x00 ∷ 0x01 ∷ 0x06 ∷ 0x11 ∷ 0x14 ∷ 0x21 ∷ 0x91 ∷ 0x93 ∷ []) frame → ⊥)
     -- 2. "03h INVALID REQUEST FRAME LENGTH: byte 3 or the frame's true length is not as below."
     ∷ (0x03, RightLength frame → ⊥)
+    -- #101: "result 21h NO MANAGEMENT ACCESS RIGHTS for other sources comes directly after 03h"
+    ∷ (0x21, Of (0x21 ∷ []) frame × (g ≡ 1 → ⊥))
     -- 3. "04h INVALID EXPANDER CHANGE COUNT: 91h and 93h, when bytes 4 and 5 are neither 0000h nor the present count."
     ∷ (0x04, Of (0x91 ∷ 0x93 ∷ []) frame × (List·Memᴰ (word frame 4) (0x0000 ∷ s .changes ∷ []) → ⊥))
     -- 4. "10h PHY DOES NOT EXIST (functions with a phy, byte 9)."
@@ -81,6 +83,7 @@ abbrev checksFor : Shelf → ℕ → List ℕ → ℕ → List (ℕ × Bool)
 checksFor s g frame f =
     (0x01, known f)
     ∷ (0x03, lengthRight frame)
+    ∷ (0x21, onlyFor (0x21 ∷ []) f (eqb g 1))
     ∷ (0x04, onlyFor (0x91 ∷ 0x93 ∷ []) f (countPasses s g frame))
     ∷ (0x10, onlyFor (0x11 ∷ 0x14 ∷ 0x91 ∷ 0x93 ∷ []) f (exists s (byte frame 9)))
     ∷ (0x16, onlyFor (0x11 ∷ 0x14 ∷ []) f (reaches s g (byte frame 9)))
@@ -94,7 +97,7 @@ checksFor s g frame f =
 abbrev pub checks : Shelf → ℕ → List ℕ → List (ℕ × Bool)
 checks s g frame = checksFor s g frame (functionOf frame)
 
--- by the seven functions; an unknown one fails the first check
+-- by the eight functions; an unknown one fails the first check
 pub verdict-checks : (s : Shelf) (g : ℕ) (frame : List ℕ)
     → resultCode (verdict s g frame) ≡ firstFailure (checks s g frame)
 unfolding verdict decide resultOf known
@@ -113,6 +116,7 @@ verdict-checks s g frame = go (known (functionOf frame)) refl
     go false e = rw e
     go true e =
         by-function frame Agrees (rw e tt)
+        (simp (check-map resultCode))
         (simp (check-map resultCode))
         (simp (check-map resultCode))
         (simp (check-map resultCode))
@@ -143,6 +147,7 @@ checks-tell : (s : Shelf) (g : ℕ) (frame : List ℕ) → Tell (checks s g fram
 checks-tell s g frame =
     tell (Iff·not (known-iff (functionOf frame)))
     (tell (Iff·not (length-right frame))
+    (tell (only-for-iff (0x21 ∷ []) frame (eqb g 1) (eqb-iff g 1))
     (tell (only-for-iff (0x91 ∷ 0x93 ∷ []) frame (countPasses s g frame) (count-right (grounds s g (byte frame 9)) (word frame 4)))
     (tell (only-for-iff (0x11 ∷ 0x14 ∷ 0x91 ∷ 0x93 ∷ []) frame (exists s (byte frame 9)) Iff·rfl)
     (tell (only-for-iff (0x11 ∷ 0x14 ∷ []) frame (reaches s g (byte frame 9)) Iff·rfl)
@@ -151,7 +156,7 @@ checks-tell s g frame =
     (tell (only-for-iff (0x06 ∷ []) frame (leb (byte frame 2) 0x0F) (leb-iff (byte frame 2) 0x0F))
     (tell (only-for-iff (0x93 ∷ []) frame (leb (byte frame 11) 4) (leb-iff (byte frame 11) 4))
     (tell (only-for-iff (0x93 ∷ []) frame (eqb (firstUnsupported frame (byte frame 11) 0) (byte frame 11)) (sources-iff frame))
-    nothing)))))))))
+    nothing))))))))))
 
 -- The result of a request is the code of the first failure that is there, and 00h exactly if none is.
 verdict-drawn : (s : Shelf) (g : ℕ) (frame : List ℕ) (code : ℕ)

@@ -1,13 +1,15 @@
 -- What a stranger does and learns: demand 3 says nothing of that by itself. A request about a phy that its source does not reach leaves
 -- the shelf, and its answer depends on the function, the length, the count and the phy's existence, so it tells nothing of its contents;
--- no request changes a phy out of its source's reach; a report changes its own phy alone. Assumes nothing.
+-- a group other than 1 learns nothing by 21h; no request changes a phy out of its source's reach; a report changes its own phy alone.
+-- Assumes nothing.
 use Prim.Native.Nat.{ℕ, _≤_}
 use native.Mathlib.Nat.{eq-zero-or-pos}
 use native.Mathlib.Omega.{arith}
-use mathlib.Core.Path.{_≡_, refl, _∙_}
+use mathlib.Core.Path.{_≡_, refl, ap, _∙_}
 use mathlib.Core.Logic.{⊎-elim}
 use mathlib.Core.Bool.{Bool, false, cond, _||_}
 use mathlib.Core.List.{List, [], _∷_, List·Memᴰ·head, List·Memᴰ·tail}
+use borrow.Author.Tests.{ne-eqb}
 use lib.Dec.{T}
 use lib.ListN.{length}
 use Rattle.model.specs.declared.Shelf.{Shelf}
@@ -100,6 +102,35 @@ strangers-learn-nothing s t g h frame frame′ out answered answered′ strange 
     (λ e. rw (← function, counts (List·Memᴰ·head e), lengths, there))
     (λ e. rw (← function, counts (List·Memᴰ·tail (List·Memᴰ·head e)), lengths, there)) in
     (cc, cc (one .left, other .left, code, function))
+
+-- ---- 21h (#101): "only source group 1 may ask"
+
+-- A group other than 1 learns nothing by 21h but whether its length was right, of any shelf.
+abbrev pub listCode : List ℕ → ℕ
+listCode frame = check (lengthRight frame) 0x03 0x21
+
+list-verdict : (s : Shelf) (g : ℕ) (frame : List ℕ) → functionOf frame ≡ 0x21 → (g ≡ 1 → ⊥)
+    → resultCode (verdict s g frame) ≡ listCode frame
+unfolding known
+list-verdict s g frame e other = rw (verdict-checks s g frame, e, ne-eqb g 1 other)
+
+pub list-refused : (s : Shelf) (g : ℕ) (frame out : List ℕ) → NotRefused s g frame out → functionOf frame ≡ 0x21 → (g ≡ 1 → ⊥)
+    → Failed s g frame out (listCode frame)
+list-refused s g frame out answered e other =
+    failed-result s g frame out (listCode frame) answered
+    (result-byte s g frame out answered ∙ list-verdict s g frame e other)
+    (check-both (λ n. 1 ≤ n) (lengthRight frame) _ _ (omega arith) (omega arith))
+
+-- so two such requests, whatever else differs in frames, shelves and sources, are answered alike
+pub list-tells-nothing : (s t : Shelf) (g h : ℕ) (frame frame′ out : List ℕ)
+    → NotRefused s g frame out → NotRefused t h frame′ out → functionOf frame ≡ 0x21 → functionOf frame′ ≡ 0x21
+    → (g ≡ 1 → ⊥) → (h ≡ 1 → ⊥) → lengthRight frame ≡ lengthRight frame′
+    → (served s g frame out .answer ≡ served t h frame′ out .answer) × (lentAfter s g frame out ≡ lentAfter t h frame′ out)
+list-tells-nothing s t g h frame frame′ out answered answered′ e e′ other other′ lengths =
+    let one : Failed s g frame out (listCode frame) = list-refused s g frame out answered e other in
+    let another : Failed t h frame′ out (listCode frame′) = list-refused t h frame′ out answered′ e′ other′ in
+    let code : listCode frame ≡ listCode frame′ = ap (λ b. check b 0x03 0x21) lengths in
+    (cc, cc (one .left, another .left, code, e, e′))
 
 -- ---- No request of a group changes any number of a phy that the group does not reach.
 

@@ -38,7 +38,11 @@ quiet-control operation not-reset not-disable =
       change0 = controlled-inner operation .change0;
     }
 
-module _ (g : ℕ) (s : Shelf) where
+-- Group 1 reaches every phy, as in a legal table. (It may ask for the stored peak events, which tell about every phy.)
+abbrev pub OneReachesAll : ℕ → Shelf → Type 0
+OneReachesAll g s = g ≡ 1 → (p : ℕ) → T (exists s p) → T (reaches s g p)
+
+module _ (g : ℕ) (s : Shelf) (all : OneReachesAll g s) where
   -- the effect of a crossed-out request, by its function
   unseen-effect : (h : ℕ) (frame : List ℕ) → CrossedRequest g s h frame
       → looks g (effect s frame (asked frame)) ≡ looks g s
@@ -53,6 +57,9 @@ module _ (g : ℕ) (s : Shelf) where
       out : reaches s g (byte frame 9) ≡ false
       out = is-false (reaches s g (byte frame 9)) (crossed .unreached)
 
+      other : g ≡ 1 → ⊥
+      other one = crossed .unreached (all one (byte frame 9) (crossed .about .2))
+
       control : functionOf frame ≡ 0x91 → looks g (effect s frame (asked frame)) ≡ looks g s
       control e =
           let no-reset : eqb (byte frame 10) 0x01 ≡ false =
@@ -61,13 +68,15 @@ module _ (g : ℕ) (s : Shelf) where
           ne-eqb (byte frame 10) 0x03
           (λ same. crossed .no-reset-or-disable (crossed .about, e, List·Memᴰ·tail (List·Memᴰ·head same))) in
           rw (asked-91 frame e)
-          (looks-stays g s (byte frame 9) (controlled (byte frame 10)) (quiet-control (byte frame 10) no-reset no-disable) out)
+          (looks-stays g s (byte frame 9) (controlled (byte frame 10)) (quiet-control (byte frame 10) no-reset no-disable) other
+          out)
 
       configure : functionOf frame ≡ 0x93 → looks g (effect s frame (asked frame)) ≡ looks g s
       configure e =
           rw (asked-93 frame e)
           (looks-stays g s (byte frame 9) (configured frame (byte frame 11) (clears frame))
           (configured-inner frame (byte frame 11) (clears frame))
+          other
           out)
 
   -- ---- every crossed-out operation
@@ -81,13 +90,15 @@ module _ (g : ℕ) (s : Shelf) where
   crossed-unseen (Event p source amount) t =
       every-outcome (λ t. looks g t ≡ looks g s) (eventTaken (exists s p) source amount) s _ refl
       (λ done.
-      looks-stays g s p (eventOn source amount) (event-inner source amount)
-      (is-false (reaches s g p) (crossed-event-iff g s p source amount .0 t .1)))
+      let (there, unreached) = crossed-event-iff g s p source amount .0 t in
+      looks-stays g s p (eventOn source amount) (event-inner source amount) (λ one. unreached (all one p there))
+      (is-false (reaches s g p) unreached))
   crossed-unseen (LinkChange p) t = absurd t
   crossed-unseen ReducedFunctionality t = absurd t
   crossed-unseen Ses t = absurd t
   crossed-unseen (QueryReach h) t = absurd t
 
+module _ (g : ℕ) (s : Shelf) where
   pub crossed-untold : (operation : Operation) → T (crossedOut g s operation) → told g s operation ≡ []
   unfolding told crossedOut
   crossed-untold (Ask h frame out) t =
@@ -98,7 +109,11 @@ module _ (g : ℕ) (s : Shelf) where
   crossed-untold Ses t = refl
   crossed-untold (QueryReach h) t = absurd t
 
--- ---- what is crossed out is the same all through a run
+-- ---- what is crossed out, and what group 1 reaches, is the same all through a run
+
+pub reaches-all-zones : (g : ℕ) (s t : Shelf) → SameZones s t → OneReachesAll g s → OneReachesAll g t
+reaches-all-zones g s t same all one p there =
+    rw (same .fixed .table, same .groups p) (all one p (rw (same .fixed .number) at there))
 
 pub crossed-zones : (g : ℕ) (s t : Shelf) (operation : Operation) → SameZones s t
     → crossedOut g t operation ≡ crossedOut g s operation

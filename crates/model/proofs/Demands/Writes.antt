@@ -85,8 +85,8 @@ control-iff : (s : Shelf) (g : ℕ) (frame : List ℕ) → functionOf frame ≡ 
 unfolding known
 control-iff s g frame e =
     Iff·trans (rw e (
-      λ (_, (l, (c, (there, (_, (reached, (operation, _))))))). (l, c, there, reached, operation),
-      λ (l, c, there, reached, operation). (tt, (l, (c, (there, (tt, (reached, (operation, (tt, (tt, (tt, tt)))))))))),
+      λ (_, (l, (_, (c, (there, (_, (reached, (operation, _)))))))). (l, c, there, reached, operation),
+      λ (l, c, there, reached, operation). (tt, (l, (tt, (c, (there, (tt, (reached, (operation, (tt, (tt, (tt, tt))))))))))),
     ))
     (write-iff s g frame 40 (0x09 ∷ 0x00 ∷ []) (right-length-91 frame e) (known-operation (byte frame 10)))
 
@@ -96,8 +96,8 @@ configure-iff : (s : Shelf) (g : ℕ) (frame : List ℕ) → functionOf frame �
 unfolding known
 configure-iff s g frame e =
     Iff·trans (rw e (
-      λ (_, (l, (c, (there, (_, (reached, (_, (_, (few, (sources, _)))))))))). (l, c, there, reached, (few, sources)),
-      λ (l, c, there, reached, (few, sources)). (tt, (l, (c, (there, (tt, (reached, (tt, (tt, (few, (sources, tt)))))))))),
+      λ (_, (l, (_, (c, (there, (_, (reached, (_, (_, (few, (sources, _))))))))))). (l, c, there, reached, (few, sources)),
+      λ (l, c, there, reached, (few, sources)). (tt, (l, (tt, (c, (there, (tt, (reached, (tt, (tt, (few, (sources, tt))))))))))),
     ))
     (write-iff s g frame (12 + 8 * byte frame 11) ((2 + 2 * byte frame 11) ∷ []) (right-length-93 frame e)
     (Iff·and (leb-iff (byte frame 11) 4) (sources-iff frame)))
@@ -175,6 +175,7 @@ read-stays s g frame out read =
     (λ e.
     by-function frame (λ function request. (List·Memᴰ function (0x91 ∷ 0x93 ∷ []) → ⊥) → effect s frame request ≡ s)
     (rw (accepted-decided s g frame e .0) tt)
+    (λ no-write. refl)
     (λ no-write. refl)
     (λ no-write. refl)
     (λ no-write. refl)

@@ -6,7 +6,7 @@ use mathlib.Core.Logic.{_↔_}
 use mathlib.Core.Bool.{Bool, true, false, false≢true}
 use Rattle.model.specs.declared.FunctionResult.{FunctionResult}
 use Rattle.model.specs.declared.FunctionResult.the-variants.{Accepted, InvalidExpanderChangeCount, PhyDoesNotExist}
-use Rattle.model.specs.declared.FunctionResult.the-variants.{PhyVacant, SmpZoneViolation}
+use Rattle.model.specs.declared.FunctionResult.the-variants.{PhyVacant, SmpZoneViolation, NoManagementAccessRights}
 use Rattle.model.specs.declared.Grounds.{Grounds}
 use Rattle.model.specs.declared.House.{House}
 use Rattle.model.specs.declared.House.the-variants.{PhyNumber, PhyGroup, IllegalTable, SourceGroup, ShortBuffer}
@@ -15,7 +15,7 @@ use Rattle.model.specs.declared.Shelf.{Shelf}
 use Rattle.model.specs.declared.Taken.{Taken}
 use Rattle.model.specs.declared.Taken.the-variants.{Done, NotDone}
 use Rattle.model.specs.House.{houseNumber, takenNumber}
-use Rattle.model.specs.Results.{accepted, countRight, checkPhy, checkRead, checkWrite}
+use Rattle.model.specs.Results.{accepted, countRight, checkPhy, checkRead, checkWrite, checkManagement}
 use Rattle.model.specs.Shelf.{outcome}
 use Rattle.model.specs.Tests.{check}
 
@@ -78,4 +78,13 @@ write-passed on expected contents = go (countRight on expected)
     go : (right : Bool) → accepted (check right InvalidExpanderChangeCount (checkPhy on SmpZoneViolation contents)) ≡ true
         → Granting on
     go true e = phy-passed (on .there) (on .reached) SmpZoneViolation contents refl e
+    go false e = absurd (false≢true e)
+
+-- ---- A 21h that is accepted is from group 1.
+
+pub management-passed : (on : Grounds) → accepted (checkManagement on) ≡ true → on .management ≡ true
+management-passed on = go (on .management)
+  where
+    go : (b : Bool) → accepted (check b NoManagementAccessRights Accepted) ≡ true → b ≡ true
+    go true e = refl
     go false e = absurd (false≢true e)

@@ -11,6 +11,7 @@ use mathlib.Core.List.{Memᴰ·append-right}
 use lib.ListN.{length, getD, length-append, List·getD-append}
 use lib.Seq.{getD-at}
 use Rattle.model.specs.Tests.{joinBelow}
+use Rattle.model.proofs.Laws.Places.{All, all-append}
 use Rattle.model.proofs.Laws.Rising.{Rising, rising-append}
 use Rattle.model.proofs.Laws.Tests.{below-suc}
 
@@ -33,6 +34,11 @@ join-at {A} (suc n) of d p h =
     (getD-at before (of n) [] d n (join-length n of))
     p
     h
+
+pub join-each : {A : Type 0} (P : A → Type 0) (n : ℕ) (of : ℕ → A) → ((p : ℕ) → P (of p)) → All P (joinBelow n (λ p. of p ∷ []))
+unfolding joinBelow
+join-each P zero of each = tt
+join-each P (suc n) of each = all-append P (joinBelow n (λ p. of p ∷ [])) (of n ∷ []) (join-each P n of each) (each n, tt)
 
 -- ---- at most k elements to each number
 

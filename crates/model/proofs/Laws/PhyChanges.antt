@@ -9,7 +9,7 @@ use Rattle.model.specs.declared.Effect.{Effect}
 use Rattle.model.specs.declared.Phy.{Phy}
 use Rattle.model.specs.declared.Request.{Request}
 use Rattle.model.specs.declared.Request.the-variants.{ReportGeneral, ReportManufacturer, ReportBroadcast}
-use Rattle.model.specs.declared.Request.the-variants.{ReportPhyErrorLog, ReportPhyEvent, PhyControl, ConfigurePhyEvent}
+use Rattle.model.specs.declared.Request.the-variants.{ReportPhyErrorLog, ReportPhyEvent, ReportPhyEventList, PhyControl, ConfigurePhyEvent}
 use Rattle.model.specs.declared.Shelf.{Shelf}
 use Rattle.model.specs.Counting.{originateIf, quiet, changeOn, eventOn}
 use Rattle.model.specs.Reports.{linkChangeOn}
@@ -33,6 +33,7 @@ every-write P frame control configure ReportManufacturer = tt
 every-write P frame control configure (ReportBroadcast kind) = tt
 every-write P frame control configure (ReportPhyErrorLog p) = tt
 every-write P frame control configure (ReportPhyEvent p) = tt
+every-write P frame control configure (ReportPhyEventList start) = tt
 every-write P frame control configure (PhyControl expected p operation) = control operation
 every-write P frame control configure (ConfigurePhyEvent expected clear p d) = configure d clear
 
@@ -45,6 +46,7 @@ write-granted s g frame ReportManufacturer e = tt
 write-granted s g frame (ReportBroadcast kind) e = tt
 write-granted s g frame (ReportPhyErrorLog p) e = tt
 write-granted s g frame (ReportPhyEvent p) e = tt
+write-granted s g frame (ReportPhyEventList start) e = tt
 write-granted s g frame (PhyControl expected p operation) e = write-passed (grounds s g p) expected (checkOperation operation) e
 write-granted s g frame (ConfigurePhyEvent expected clear p d) e = write-passed (grounds s g p) expected (checkDescriptors frame d) e
 

@@ -13,6 +13,10 @@ abbrev pub All : {A : Type 0} → (A → Type 0) → List A → Type 0
 All P [] = Unit {0}
 All P (x ∷ xs) = P x × All P xs
 
+pub all-append : {A : Type 0} (P : A → Type 0) (xs ys : List A) → All P xs → All P ys → All P (xs ++ ys)
+all-append P [] ys first then = then
+all-append P (x ∷ xs) ys first then = (first .0, all-append P xs ys (first .1) then)
+
 -- within a list it does not matter what would stand past its end
 pub any-default : {A : Type 0} (xs : List A) (i : ℕ) (d e : A) → i < length xs → getD xs i d ≡ getD xs i e
 any-default [] i d e h = absurd (omega (arith, h))

@@ -7,22 +7,26 @@ use mathlib.Core.List.{List}
 use lib.Dec.{T}
 use lib.ListN.{length, length-set}
 use Rattle.model.specs.declared.Effect.{Effect}
+use Rattle.model.specs.declared.Entry.{Entry}
 use Rattle.model.specs.declared.Phy.{Phy}
 use Rattle.model.specs.declared.Shelf.{Shelf}
-use Rattle.model.specs.Counting.{originateIf, carriedOut, eventOn}
+use Rattle.model.specs.declared.Store.{Store}
+use Rattle.model.specs.Counting.{originateIf, eventOn}
 use Rattle.model.specs.Reports.{eventTaken, event, linkChangeTaken, linkChangeOn, linkChange, reducedFunctionality, sesNotice}
 use Rattle.model.specs.Request.{asked}
 use Rattle.model.specs.Results.{grounds}
 use Rattle.model.specs.Runs.{Operation, Ask, Event, LinkChange, ReducedFunctionality, Ses, QueryReach, next}
 use Rattle.model.specs.Shelf.{noPhy, exists, phyAt, putDevice}
+use Rattle.model.specs.Store.{store, entriesOf, carriedOut}
 use Rattle.model.specs.Writes.{controlled, configured, Doing, Reads, WritesTo, doing, done, effect}
 use Rattle.model.proofs.Laws.Checks.{Granting, outcome-taken, every-outcome}
 use Rattle.model.proofs.Laws.Handled.{handled-all, accepted-decided}
 use Rattle.model.proofs.Laws.PhyChanges.{OfWrite, every-write, write-granted, event-inner, link-change-inner, configured-inner}
 use Rattle.model.proofs.Laws.PhyChanges.{controlled-inner}
-use Rattle.model.proofs.Laws.Places.{change-at}
+use Rattle.model.proofs.Laws.Places.{All, change-at}
 use Rattle.model.proofs.Plain.Reports.{event-done, link-change-done}
 use Rattle.model.proofs.Plain.Shelf.{SameFixed, with-fixed}
+use Rattle.model.proofs.Plain.Store.{store-each}
 
 -- From s to t. Of what is done to a phy, what is asked holds.
 pub data Step (Keeps : (Phy → Effect) → Type 0) (s t : Shelf) : Type 0 where
@@ -107,6 +111,16 @@ step-counts Keeps s t (ChangesPhy p f there keeps e) =
     })
 step-counts Keeps s t (CountsNotice a b e) =
     rw e (record { size = refl; changes = (false, refl); expander3 = (a, refl); ses0 = (b, refl) })
+
+-- What holds of the stored peak events, and still after one more entry is stored, holds after the step, if it is asked of every entry.
+pub step-store : (Keeps : (Phy → Effect) → Type 0) (P : Store → Type 0) (Q : Entry → Type 0)
+    → ((k : Store) (e : Entry) → Q e → P k → P (store k e))
+    → (s t : Shelf) → ((p : ℕ) (f : Phy → Effect) → T (exists s p) → Keeps f → All Q (entriesOf p (f (phyAt s p))))
+    → Step Keeps s t → P (s .store) → P (t .store)
+step-store Keeps P Q one s t asked (Stays e) holds = rw e holds
+step-store Keeps P Q one s t asked (ChangesPhy p f there keeps e) holds =
+    rw e (store-each P Q one (s .store) (entriesOf p (f (phyAt s p))) (asked p f there keeps) holds)
+step-store Keeps P Q one s t asked (CountsNotice a b e) holds = rw e holds
 
 -- ---- So who reaches what stays as it was, all through a run.
 

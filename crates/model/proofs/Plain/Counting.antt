@@ -1,5 +1,5 @@
 -- Originating, the two additions, the crossing of a threshold and which monitors cross theirs, in plain logic. Assumes nothing.
-use Prim.Native.Nat.{ℕ, _+_, _-_, _^_, _≤_, _<_}
+use Prim.Native.Nat.{ℕ, zero, suc, _+_, _-_, _^_, _≤_, _<_}
 use native.Mathlib.Nat.{mod-eq-of-lt, eq-or-lt-of-le}
 use native.Mathlib.Omega.{arith}
 use mathlib.Core.Path.{_≡_, refl, ap, _∙_}
@@ -8,12 +8,13 @@ use mathlib.Core.Bool.{Bool, true, false, cond}
 use mathlib.Core.List.{List, [], _∷_, map}
 use borrow.Author.Tests.{ne-eqb}
 use lib.Dec.{T, leb, ltb}
-use lib.ListN.{length, length-set}
+use lib.ListN.{length, replicate, length-set}
 use Rattle.model.specs.declared.Monitor.{Monitor}
-use Rattle.model.specs.Counting.{originate, originateIf, originateTimes, addWrapping, addSaturating, counted, crosses, crossed}
+use Rattle.model.specs.Counting.{originate, originateIf, originateTimes, addWrapping, addSaturating, counted, picked, crosses, crossed}
 use Rattle.model.specs.Counting.{originateCrossings, addError}
 use Rattle.model.specs.Sources.{peak}
 use Rattle.model.specs.Tests.{within}
+use Rattle.model.proofs.Laws.Places.{All}
 use Rattle.model.proofs.Laws.Tests.{all-three-iff, leb-iff, ltb-iff, cond-both}
 
 -- "Originating adds one to that count; FFFFh goes to 0001h."
@@ -71,6 +72,21 @@ crosses-iff before after =
 pub threshold-0 : (before : Monitor) (after : ℕ) → before .threshold ≡ 0 → T (crosses before after) → ⊥
 threshold-0 before after e t = let h = crosses-iff before after .0 t in omega arith
 
+-- ---- the marked ones of some monitors
+
+pub picked-all : (P : Monitor → Type 0) (marks : List Bool) (ms : List Monitor) → All P ms → All P (picked marks ms)
+picked-all P [] ms all = tt
+picked-all P (mark ∷ marks) [] all = tt
+picked-all P (mark ∷ marks) (m ∷ ms) all =
+    let others : All P (picked marks ms) = picked-all P marks ms (all .1) in
+    cond-both (All P) mark _ _ (all .0, others) others
+
+-- where none is marked there is none
+pub none-picked : (n : ℕ) (ms : List Monitor) → picked (replicate n false) ms ≡ []
+none-picked zero ms = refl
+none-picked (suc n) [] = refl
+none-picked (suc n) (m ∷ ms) = none-picked n ms
+
 -- ---- ".. originates Expander 1h, once per monitor"
 
 -- A monitor that was old is new: "A peak that a report takes from below its threshold to it or above".
@@ -105,7 +121,6 @@ crossings-one (CrossesNot c a) (CrossesNot d b) = crossings-one a b
 -- those that the definition lists have crossed, and no others
 pub crossed-are : (source amount : ℕ) (ms : List Monitor)
     → Crossings ms (map (counted source amount) ms) (crossed source amount ms)
-unfolding crossed
 crossed-are source amount [] = NoMore
 crossed-are source amount (m ∷ ms) = go (crosses m (new .value)) refl (crossed-are source amount ms)
   where
@@ -121,7 +136,6 @@ crossed-are source amount (m ∷ ms) = go (crosses m (new .value)) refl (crossed
 pub crossings-next : (source amount : ℕ) (m : Monitor) (ms : List Monitor) (count : ℕ)
     → originateCrossings source amount (m ∷ ms) count
     ≡ originateCrossings source amount ms (originateIf (crosses m (counted source amount m .value)) count)
-unfolding crossed
 crossings-next source amount m ms count = go (crosses m (counted source amount m .value))
   where
     go : (b : Bool)

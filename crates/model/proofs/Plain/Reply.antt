@@ -1,21 +1,23 @@
 -- What 06h lists, in plain logic: "Every non-zero count of that type that the source may see is listed: FFh first, then phys
--- rising, then reason rising. A source sees FFh and the phys it reaches." And how long the descriptors of 06h and 14h are. Assumes nothing.
+-- rising, then reason rising. A source sees FFh and the phys it reaches." And how long the descriptors of 06h, 14h and 21h are. Assumes nothing.
 use Prim.Native.Nat.{ℕ, suc, _+_, _*_, _≤_, _<_}
+use native.Mathlib.Nat.{mul-zero, mul-suc}
 use native.Mathlib.Omega.{arith}
-use mathlib.Core.Path.{_≡_, refl, ap, subst⁻¹}
+use mathlib.Core.Path.{_≡_, refl, sym, ap, subst⁻¹}
 use mathlib.Core.Logic.{_↔_, _⊎_, inl, inr, ⊎-elim}
 use mathlib.Core.Bool.{Bool, true, false, cond}
 use mathlib.Core.List.{List, [], _∷_, _++_, List·Memᴰ, List·Memᴰ·head, List·Memᴰ·not-nil, List·Memᴰ·eq-of-singleton}
 use mathlib.Core.List.{List·Memᴰ·append-cases, Memᴰ·append-left, Memᴰ·append-right}
 use borrow.Author.Tests.{eqb-true, eqb-false, eq-eqb, ne-eqb}
 use lib.Dec.{T, eqb}
-use lib.ListN.{length}
+use lib.ListN.{length, length-append}
+use Rattle.model.specs.declared.Entry.{Entry}
 use Rattle.model.specs.declared.Monitor.{Monitor}
 use Rattle.model.specs.declared.Phy.{Phy}
 use Rattle.model.specs.declared.Shelf.{Shelf}
 use Rattle.model.specs.Reach.{reaches}
-use Rattle.model.specs.Reply.{Broadcast, eventDescriptor, broadcastBytes, entry, listed, deviceListed, phyListed}
-use Rattle.model.specs.Reply.{seenListed, broadcasts}
+use Rattle.model.specs.Reply.{Broadcast, eventDescriptor, descriptors, broadcastDescriptor, broadcastBytes, entry, listed, deviceListed, phyListed}
+use Rattle.model.specs.Reply.{seenListed, broadcasts, entryDescriptor}
 use Rattle.model.specs.Shelf.{phyNumber, exists, phyAt}
 use Rattle.model.specs.Tests.{joinBelow}
 use Rattle.model.specs.Zone.{row}
@@ -28,10 +30,20 @@ use Rattle.model.proofs.Laws.Tests.{ltb-iff, cond-by, cond-both}
 pub event-descriptor-length : (m : Monitor) → length (eventDescriptor m) ≡ 12
 event-descriptor-length m = refl
 
+-- of descriptors that have as many bytes each
+pub descriptors-length : {A : Type 0} (of : A → List ℕ) (size : ℕ) → ((x : A) → length (of x) ≡ size) → (xs : List A)
+    → length (descriptors of xs) ≡ size * length xs
+unfolding descriptors
+descriptors-length of size each [] = sym (mul-zero size)
+descriptors-length of size each (x ∷ xs) =
+    simp length-append (omega (arith, each x, descriptors-length of size each xs, mul-suc size (length xs)))
+
 pub broadcast-bytes-length : (bs : List Broadcast) → length (broadcastBytes bs) ≡ 8 * length bs
-unfolding broadcastBytes
-broadcast-bytes-length [] = refl
-broadcast-bytes-length (b ∷ bs) = omega (arith, broadcast-bytes-length bs)
+broadcast-bytes-length bs = descriptors-length broadcastDescriptor 8 (λ b. refl) bs
+
+-- #101: "descriptors of 12 bytes as in 14h with the phy at byte 2"
+pub entry-bytes-length : (es : List Entry) → length (descriptors entryDescriptor es) ≡ 12 * length es
+entry-bytes-length es = descriptors-length entryDescriptor 12 (λ e. refl) es
 
 -- The broadcast counts that a shelf keeps, each under its type, its phy or FFh, and its reason: "Per phy: .. Change reason 0h,
 -- Expander 1h and 2h", "Device wide: .. Expander 3h (reduced functionality) and SES 0h". Change is type 0h, SES 3h, Expander 4h.

@@ -12,7 +12,7 @@ use lib.ListN.{length}
 use Rattle.model.specs.declared.Request.{Request}
 use Rattle.model.specs.declared.Request.the-variants.{ReportGeneral, ReportManufacturer, ReportBroadcast}
 use Rattle.model.specs.declared.Request.the-variants.{ReportPhyErrorLog, ReportPhyEvent, PhyControl}
-use Rattle.model.specs.declared.Request.the-variants.{ConfigurePhyEvent}
+use Rattle.model.specs.declared.Request.the-variants.{ReportPhyEventList, ConfigurePhyEvent}
 use Rattle.model.specs.Bytes.{byte, word}
 use Rattle.model.specs.Request.{badFrame, functionOf, known, shaped, lengthRight, clears, asked, descriptorSource, allowed}
 use Rattle.model.specs.Request.{firstUnsupported}
@@ -27,14 +27,14 @@ bad-frame frame =
     either-iff (ltb (length frame) 4) (not (eqb (byte frame 0) 0x40)) (ltb-iff (length frame) 4)
     (denied-iff (eqb (byte frame 0) 0x40) (eqb-iff (byte frame 0) 0x40))
 
--- the seven functions, and the four of them with a phy
+-- the eight functions, and the four of them with a phy
 abbrev pub knownFunctions : List ℕ
-knownFunctions = 0x00 ∷ 0x01 ∷ 0x06 ∷ 0x11 ∷ 0x14 ∷ 0x91 ∷ 0x93 ∷ []
+knownFunctions = 0x00 ∷ 0x01 ∷ 0x06 ∷ 0x11 ∷ 0x14 ∷ 0x21 ∷ 0x91 ∷ 0x93 ∷ []
 
 abbrev pub phyFunctions : List ℕ
 phyFunctions = 0x11 ∷ 0x14 ∷ 0x91 ∷ 0x93 ∷ []
 
--- not 01h: one of the seven functions
+-- not 01h: one of the eight functions
 pub known-iff : (function : ℕ)
     → T (known function)
     ↔ List·Memᴰ function knownFunctions
@@ -57,14 +57,14 @@ shaped-iff frame function size lengths =
     (eqb-iff (length frame) size)
     (oneOf-iff lengths (byte frame 3))
 
-one-of-seven : (a b c d e f g : Bool) {A B C D E F G : Type 0}
-    → T a ↔ A → T b ↔ B → T c ↔ C → T d ↔ D → T e ↔ E → T f ↔ F → T g ↔ G
-    → T (a || b || c || d || e || f || g) ↔ (A ⊎ B ⊎ C ⊎ D ⊎ E ⊎ F ⊎ G)
-one-of-seven a b c d e f g ia ib ic id ie if ig =
+one-of-eight : (a b c d e f g h : Bool) {A B C D E F G H : Type 0}
+    → T a ↔ A → T b ↔ B → T c ↔ C → T d ↔ D → T e ↔ E → T f ↔ F → T g ↔ G → T h ↔ H
+    → T (a || b || c || d || e || f || g || h) ↔ (A ⊎ B ⊎ C ⊎ D ⊎ E ⊎ F ⊎ G ⊎ H)
+one-of-eight a b c d e f g h ia ib ic id ie if ig ih =
     simp or-assoc
-    (either-iff a _ ia (either-iff b _ ib (either-iff c _ ic (either-iff d _ id (either-iff e _ ie (either-iff f g if ig))))))
+    (either-iff a _ ia (either-iff b _ ib (either-iff c _ ic (either-iff d _ id (either-iff e _ ie (either-iff f _ if (either-iff g h ig ih)))))))
 
--- the seven shapes; a 93h has d in byte 11
+-- the eight shapes; a 93h has d in byte 11
 abbrev pub RightLength : List ℕ → Type 0
 RightLength frame =
     Shaped frame 0x00 4 (0x00 ∷ [])
@@ -72,17 +72,19 @@ RightLength frame =
     ⊎ Shaped frame 0x06 4 (0x00 ∷ [])
     ⊎ Shaped frame 0x11 12 (0x02 ∷ 0x00 ∷ [])
     ⊎ Shaped frame 0x14 12 (0x02 ∷ [])
+    ⊎ Shaped frame 0x21 8 (0x01 ∷ [])
     ⊎ Shaped frame 0x91 40 (0x09 ∷ 0x00 ∷ [])
     ⊎ Shaped frame 0x93 (12 + 8 * byte frame 11) ((2 + 2 * byte frame 11) ∷ [])
 
 pub length-right : (frame : List ℕ) → T (lengthRight frame) ↔ RightLength frame
 unfolding lengthRight
 length-right frame =
-    one-of-seven (shaped frame 0x00 4 (0x00 ∷ []))
+    one-of-eight (shaped frame 0x00 4 (0x00 ∷ []))
     (shaped frame 0x01 4 (0x00 ∷ []))
     (shaped frame 0x06 4 (0x00 ∷ []))
     (shaped frame 0x11 12 (0x02 ∷ 0x00 ∷ []))
     (shaped frame 0x14 12 (0x02 ∷ []))
+    (shaped frame 0x21 8 (0x01 ∷ []))
     (shaped frame 0x91 40 (0x09 ∷ 0x00 ∷ []))
     (shaped frame 0x93 (12 + 8 * byte frame 11) ((2 + 2 * byte frame 11) ∷ []))
     (shaped-iff frame 0x00 4 (0x00 ∷ []))
@@ -90,6 +92,7 @@ length-right frame =
     (shaped-iff frame 0x06 4 (0x00 ∷ []))
     (shaped-iff frame 0x11 12 (0x02 ∷ 0x00 ∷ []))
     (shaped-iff frame 0x14 12 (0x02 ∷ []))
+    (shaped-iff frame 0x21 8 (0x01 ∷ []))
     (shaped-iff frame 0x91 40 (0x09 ∷ 0x00 ∷ []))
     (shaped-iff frame 0x93 (12 + 8 * byte frame 11) ((2 + 2 * byte frame 11) ∷ []))
 
@@ -126,24 +129,26 @@ pub asked-93 : (frame : List ℕ) → functionOf frame ≡ 0x93
 unfolding asked
 asked-93 frame e = rw e
 
--- what holds of each of the seven functions with what it asks holds of every frame of a known function
+-- what holds of each of the eight functions with what it asks holds of every frame of a known function
 pub by-function : (frame : List ℕ) (P : ℕ → Request → Type 0) → T (known (functionOf frame))
     → P 0x00 ReportGeneral
     → P 0x01 ReportManufacturer
     → P 0x06 (ReportBroadcast (byte frame 2))
     → P 0x11 (ReportPhyErrorLog (byte frame 9))
     → P 0x14 (ReportPhyEvent (byte frame 9))
+    → P 0x21 (ReportPhyEventList (word frame 6))
     → P 0x91 (PhyControl (word frame 4) (byte frame 9) (byte frame 10))
     → P 0x93 (ConfigurePhyEvent (word frame 4) (clears frame) (byte frame 9) (byte frame 11))
     → P (functionOf frame) (asked frame)
 unfolding asked
-by-function frame P t p00 p01 p06 p11 p14 p91 p93 =
+by-function frame P t p00 p01 p06 p11 p14 p21 p91 p93 =
     by-each (P (functionOf frame) (asked frame)) (functionOf frame) knownFunctions (known-iff (functionOf frame) .0 t)
     (λ e. rw e p00)
     (λ e. rw e p01)
     (λ e. rw e p06)
     (λ e. rw e p11)
     (λ e. rw e p14)
+    (λ e. rw e p21)
     (λ e. rw e p91)
     (λ e. rw e p93)
 

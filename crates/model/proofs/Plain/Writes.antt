@@ -1,18 +1,40 @@
--- What a 93h sets, and when one of a phy's monitors is on a peak source, in plain logic. Assumes nothing.
+-- A 91h stores nothing; what a 93h sets, and when one of a phy's monitors is on a peak source, in plain logic. Assumes nothing.
 use Prim.Native.Nat.{ℕ, zero, suc, _+_, _<_, suc-le-suc}
 use native.Mathlib.Nat.{zero-lt-suc, not-suc-le-zero, le-of-suc-le-suc}
 use native.Mathlib.Omega.{arith}
 use mathlib.Core.Path.{_≡_, refl, ap}
 use mathlib.Core.Logic.{_↔_, _⊎_, inl, inr, Iff·rfl, Iff·trans}
-use mathlib.Core.Bool.{cond}
+use mathlib.Core.Bool.{Bool, true, false, cond}
 use mathlib.Core.List.{List, [], _∷_}
-use lib.Dec.{T, ltb}
+use lib.Dec.{T, ltb, eqb}
 use lib.ListN.{length, getD}
+use Rattle.model.specs.declared.Effect.{Effect}
 use Rattle.model.specs.declared.Monitor.{Monitor}
+use Rattle.model.specs.declared.Phy.{Phy}
+use Rattle.model.specs.declared.Store.{Store}
+use Rattle.model.specs.Counting.{changeOn}
 use Rattle.model.specs.Shelf.{freshMonitor}
 use Rattle.model.specs.Sources.{peak}
-use Rattle.model.specs.Writes.{setMonitor, setMonitors, anyPeak}
-use Rattle.model.proofs.Laws.Tests.{either-iff}
+use Rattle.model.specs.Store.{storeAll, entriesOf}
+use Rattle.model.specs.Writes.{withoutErrors, controlled, setMonitor, setMonitors, anyPeak}
+use Rattle.model.proofs.Laws.Tests.{either-iff, cond-both}
+use Rattle.model.proofs.Plain.Store.{stores-none}
+
+-- #101: a link change, and a 91h, stores nothing
+pub change-stores : (k : Store) (p : ℕ) (enabled : Bool) (x : Phy) → storeAll k (entriesOf p (changeOn enabled x)) ≡ k
+unfolding changeOn
+change-stores k p enabled x = stores-none k p (changeOn enabled x .phy) true
+
+pub controlled-stores : (k : Store) (p operation : ℕ) (x : Phy) → storeAll k (entriesOf p (controlled operation x)) ≡ k
+unfolding controlled
+controlled-stores k p operation x =
+    cond-both StoresNone (eqb operation 0x01) _ _ (change-stores k p true x)
+    (cond-both StoresNone (eqb operation 0x03) _ _
+    (cond-both StoresNone (x .enabled) _ _ (change-stores k p false x) (stores-none k p x false))
+    (cond-both StoresNone (eqb operation 0x05) _ _ (stores-none k p (withoutErrors x) false) (stores-none k p x false)))
+  where
+    StoresNone : Effect → Type 0
+    StoresNone e = storeAll k (entriesOf p e) ≡ k
 
 -- a 93h sets monitors in their places, and adds or drops none
 pub set-length : (frame : List ℕ) (d i : ℕ) (ms : List Monitor) → length (setMonitors frame d i ms) ≡ length ms
