@@ -1,4 +1,4 @@
--- Laws of the list as it is written part by part.
+-- The response, once its list is written.
 pub mod Listing
 -- The walk over the phys.
 pub mod Walk

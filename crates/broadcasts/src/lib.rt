@@ -21,7 +21,8 @@ ghost use lib.ListN.{length};
 ghost use Rattle.model.specs.Reply.{listed, deviceListed, phyListed, seenListed, broadcasts, broadcastHead, reportBroadcast};
 ghost use Rattle.model.specs.Server.{leastBuffer};
 ghost use Rattle.words.specs.Words.{shelfOf};
-ghost use Rattle.broadcasts.specs.Listed.{Lists};
+ghost use Rattle.broadcasts.specs.Listed.{broadcastList};
+ghost use Rattle.replies.specs.Listed.{Lists};
 ghost use Rattle.replies.specs.Sent.{Sent};
 
 // One count of the list, as descriptor n, unless it is 0: "Every non-zero count". Gives how many
@@ -29,7 +30,7 @@ ghost use Rattle.replies.specs.Sent.{Sent};
 fn list(out: &mut [u8], n: u8, phy: u8, reason: u8, count: u16) -> u8
     requires { ⌜ leastBuffer ≤ length (now out) ⌝ }
     requires { ⌜ n ≤ 48 ⌝ }
-    ensures { λ r. ⌜ Lists (now (out .entry)) n (listed phy reason count) r (now (out .exit)) ⌝ }
+    ensures { λ r. ⌜ Lists broadcastList (now (out .entry)) n (listed phy reason count) r (now (out .exit)) ⌝ }
 {
     if count == 0 {
         return n;
@@ -42,7 +43,7 @@ fn list(out: &mut [u8], n: u8, phy: u8, reason: u8, count: u16) -> u8
 // The count under FFh: "two broadcast counts under FFh: Expander 3h (reduced functionality) and SES 0h".
 fn list_device(out: &mut [u8], kind: u8, expander3: u16, ses0: u16) -> u8
     requires { ⌜ leastBuffer ≤ length (now out) ⌝ }
-    ensures { λ r. ⌜ Lists (now (out .entry)) 0 (deviceListed kind expander3 ses0) r (now (out .exit)) ⌝ }
+    ensures { λ r. ⌜ Lists broadcastList (now (out .entry)) 0 (deviceListed kind expander3 ses0) r (now (out .exit)) ⌝ }
 {
     match kind {
         0x3 => list(out, 0, 0xFF, 0x0, ses0),
@@ -55,7 +56,7 @@ fn list_device(out: &mut [u8], kind: u8, expander3: u16, ses0: u16) -> u8
 fn list_phy(out: &mut [u8], n: u8, kind: u8, phy: u8, numbers: Phy) -> u8
     requires { ⌜ leastBuffer ≤ length (now out) ⌝ }
     requires { ⌜ n ≤ 47 ⌝ }
-    ensures { λ r. ⌜ Lists (now (out .entry)) n (phyListed kind phy numbers) r (now (out .exit)) ⌝ }
+    ensures { λ r. ⌜ Lists broadcastList (now (out .entry)) n (phyListed kind phy numbers) r (now (out .exit)) ⌝ }
 {
     match kind {
         0x0 => list(out, n, phy, 0x0, numbers.change0),
@@ -71,7 +72,7 @@ fn list_phy(out: &mut [u8], n: u8, kind: u8, phy: u8, numbers: Phy) -> u8
 fn list_seen(out: &mut [u8], n: u8, row: u32, kind: u8, phy: u8, numbers: Phy) -> u8
     requires { ⌜ leastBuffer ≤ length (now out) ⌝ }
     requires { ⌜ n ≤ 47 ⌝ }
-    ensures { λ r. ⌜ Lists (now (out .entry)) n (seenListed row kind phy numbers) r (now (out .exit)) ⌝ }
+    ensures { λ r. ⌜ Lists broadcastList (now (out .entry)) n (seenListed row kind phy numbers) r (now (out .exit)) ⌝ }
 {
     if !smp_row_reaches(row, numbers.group) {
         return n;
@@ -82,7 +83,7 @@ fn list_seen(out: &mut [u8], n: u8, row: u32, kind: u8, phy: u8, numbers: Phy) -
 // The whole list: "FFh first, then phys rising, then reason rising." Gives how many there are.
 fn list_all(words: &[u32; WORDS], source: u32, kind: u8, out: &mut [u8]) -> u8
     requires { ⌜ leastBuffer ≤ length (now out) ⌝ }
-    ensures { λ r. ⌜ Lists (now (out .entry)) 0 (broadcasts (shelfOf (now (words .entry))) source kind) r (now (out .exit)) ⌝ }
+    ensures { λ r. ⌜ Lists broadcastList (now (out .entry)) 0 (broadcasts (shelfOf (now (words .entry))) source kind) r (now (out .exit)) ⌝ }
 {
     let row = row(words, source);
     let number = phy_number(words[0]);

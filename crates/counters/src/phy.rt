@@ -12,8 +12,9 @@ ghost use Prim.Native.Nat.{max};
 ghost use mathlib.Core.Bool.{cond};
 ghost use mathlib.Core.List.{map};
 ghost use Rattle.model.specs.Counting.{originateIf, addWrapping, counted, crosses};
-ghost use Rattle.model.specs.Counting.{originateCrossings, addError, eventOn, changeOn};
+ghost use Rattle.model.specs.Counting.{crossings, addError, eventOn, changeOn};
 ghost use Rattle.model.specs.Sources.{peak};
+ghost use Rattle.counters.specs.Marked.{originateMarked};
 
 // "counting values wrap at 32 bits, peaks keep the larger"
 fn value_after(source: u32, amount: u32, value: u32) -> u32
@@ -46,29 +47,47 @@ fn crosses(before: Monitor, after: u32) -> bool
     peak(before.source as u32) & (before.value < before.threshold) & (before.threshold <= after)
 }
 
-// ".. originates Expander 1h, once per monitor": the count after one monitor
-fn originate_crossing(source: u32, amount: u32, before: Monitor, count: u16) -> u16
-    ensures { λ r. ⌜ r ≡ originateIf (crosses before (counted source amount before .value)) count ⌝ }
+// whether a report takes this monitor there
+fn crossing(source: u32, amount: u32, before: Monitor) -> bool
+    ensures { λ r. ⌜ r ≡ crosses before (counted source amount before .value) ⌝ }
 {
     let after = counted(source, amount, before);
-    if crosses(before, after.value) {
-        originate(count)
-    } else {
-        count
-    }
+    crosses(before, after.value)
 }
 
-// .. and after all four. A report on a counting source changes no peak, and so takes none anywhere.
-fn originate_crossings(source: u32, amount: u32, monitors: [Monitor; 4], count: u16) -> u16
-    ensures { λ r. ⌜ r ≡ originateCrossings source amount monitors count ⌝ }
+// .. and which of the four. A report on a counting source changes no peak, and so takes none anywhere.
+fn crossings(source: u32, amount: u32, monitors: [Monitor; 4]) -> [bool; 4]
+    ensures { λ r. ⌜ r ≡ crossings source amount monitors ⌝ }
 {
     if !peak(source) {
+        return [false; 4];
+    }
+    [
+        crossing(source, amount, monitors[0]),
+        crossing(source, amount, monitors[1]),
+        crossing(source, amount, monitors[2]),
+        crossing(source, amount, monitors[3]),
+    ]
+}
+
+// ".. originates Expander 1h, once per monitor": the count after one monitor, which is marked if it does
+fn originate_if(mark: bool, count: u16) -> u16
+    ensures { λ r. ⌜ r ≡ originateIf mark count ⌝ }
+{
+    if mark { originate(count) } else { count }
+}
+
+// .. and after all four. Most reports take none there.
+fn originate_marked(marks: [bool; 4], count: u16) -> u16
+    ensures { λ r. ⌜ r ≡ originateMarked marks count ⌝ }
+{
+    if !(marks[0] | marks[1] | marks[2] | marks[3]) {
         return count;
     }
-    let after0 = originate_crossing(source, amount, monitors[0], count);
-    let after1 = originate_crossing(source, amount, monitors[1], after0);
-    let after2 = originate_crossing(source, amount, monitors[2], after1);
-    originate_crossing(source, amount, monitors[3], after2)
+    let after0 = originate_if(marks[0], count);
+    let after1 = originate_if(marks[1], after0);
+    let after2 = originate_if(marks[2], after1);
+    originate_if(marks[3], after2)
 }
 
 // The four monitors after a report.
@@ -95,28 +114,29 @@ fn add_error(source: u32, amount: u32, errors: [u32; 4]) -> [u32; 4]
     after
 }
 
-// An event report, on the phy that it names.
+// An event report, on the phy that it names. #101: "Each origination of Expander 1h stores the monitor that crossed, in
+// monitor order if several do, with its new value".
 pub fn event_on(source: u32, amount: u32, before: Phy) -> Effect
     ensures { λ r. ⌜ r ≡ eventOn source amount before ⌝ }
 {
     let errors = before.errors;
     let monitors = before.monitors;
-    let after = Phy {
-        group: before.group,
-        enabled: before.enabled,
-        errors: add_error(source, amount, errors),
-        monitors: counted_monitors(source, amount, monitors),
-        change0: before.change0,
-        expander1: originate_crossings(source, amount, monitors, before.expander1),
-        expander2: before.expander2,
-    };
+    let added = add_error(source, amount, errors);
+    let counted = counted_monitors(source, amount, monitors);
+    let marks = crossings(source, amount, monitors);
+    let mut after = before;
+    after.errors = added;
+    after.monitors = counted;
+    after.expander1 = originate_marked(marks, before.expander1);
     Effect {
         phy: after,
         change: false,
+        monitors: counted,
+        stored: marks,
     }
 }
 
-// A phy that originates Change, left enabled or not.
+// A phy that originates Change, left enabled or not. It stores nothing.
 pub fn change_on(enabled: bool, before: Phy) -> Effect
     ensures { λ r. ⌜ r ≡ changeOn enabled before ⌝ }
 {
@@ -134,5 +154,7 @@ pub fn change_on(enabled: bool, before: Phy) -> Effect
     Effect {
         phy: after,
         change: true,
+        monitors,
+        stored: [false; 4],
     }
 }

@@ -1,4 +1,4 @@
--- What C is told of some of document 01's frames, checked on the definition as one list. Assumes nothing.
+-- What C is told of some of document 01's frames, and of #101's, checked on the definition as one list. Assumes nothing.
 use Prim.Native.Nat.{ℕ}
 use mathlib.Core.Path.{_≡_, refl}
 use mathlib.Core.List.{List, [], _∷_, map}
@@ -18,6 +18,10 @@ frameNumbers =
     ∷ (hex "40 02 00", 0x00060000)
     -- a response fed back: H6, and byte 1 is told all the same
     ∷ (hex "41 14 16 00", 0x01060014)
+    -- #101: 21h has "8 bytes, length 01h"; any other length of either kind, 12 bytes or 00h in byte 3, is 03h
+    ∷ (hex "40 21 00 01 00 00 00 01", 0x01000021)
+    ∷ (hex "40 21 00 02 00 00 00 01 00 00 00 00", 0x01000321)
+    ∷ (hex "40 21 00 00 00 00 00 01", 0x01000321)
     ∷ []
 
 pub frame-numbers-right : map (λ entry. frameNumber (entry .0)) frameNumbers ≡ map (λ entry. entry .1) frameNumbers

@@ -18,7 +18,8 @@ fn bad_frame(frame: &[u8]) -> bool
     (frame.len() < 4) | (byte_at(frame, 0) != 0x40)
 }
 
-// Not 01h, which is for a function that is "not 00h, 01h, 06h, 11h, 14h, 91h or 93h"
+// Not 01h, which is for a function that is "not 00h, 01h, 06h, 11h, 14h, 91h or 93h". #101: "function 21h joins the known
+// functions, in the frame judge too"
 fn known(function: u8) -> bool
     ensures { λ r. ⌜ r ≡ known function ⌝ }
 {
@@ -27,12 +28,14 @@ fn known(function: u8) -> bool
         | (function == 0x06)
         | (function == 0x11)
         | (function == 0x14)
+        | (function == 0x21)
         | (function == 0x91)
         | (function == 0x93)
 }
 
 // Not 03h: "byte 3 or the frame's true length is not as below". A 93h has d in byte 11, 12 + 8d bytes
-// and length 2 + 2d, as exact numbers.
+// and length 2 + 2d, as exact numbers. #101, 21h: "The request has 8 bytes, length 01h", "with 03h for any
+// other length".
 fn length_right(frame: &[u8]) -> bool
     ensures { λ r. ⌜ r ≡ lengthRight (now (frame .entry)) ⌝ }
 {
@@ -46,6 +49,7 @@ fn length_right(frame: &[u8]) -> bool
         0x06 => (size == 4) & (length == 0x00),
         0x11 => (size == 12) & ((length == 0x02) | (length == 0x00)),
         0x14 => (size == 12) & (length == 0x02),
+        0x21 => (size == 8) & (length == 0x01),
         0x91 => (size == 40) & ((length == 0x09) | (length == 0x00)),
         0x93 => (size == 12 + 8 * d) & (length == 2 + 2 * d),
         _ => false,
@@ -53,8 +57,8 @@ fn length_right(frame: &[u8]) -> bool
 }
 
 // What a frame of a known function and a right length asks: the expected count is in bytes 4 and 5, and
-// the phy in byte 9, of every function that has them. The last arm is 93h: no other known function is
-// left.
+// the phy in byte 9, of every function that has them. #101: "starting index in 6 and 7". The last arm is
+// 93h: no other known function is left.
 fn asked(frame: &[u8]) -> Request
     ensures { λ r. ⌜ r ≡ asked (now (frame .entry)) ⌝ }
 {
@@ -69,6 +73,9 @@ fn asked(frame: &[u8]) -> Request
         },
         0x11 => Request::ReportPhyErrorLog { phy },
         0x14 => Request::ReportPhyEvent { phy },
+        0x21 => Request::ReportPhyEventList {
+            start: word_of(byte_at(frame, 6), byte_at(frame, 7)),
+        },
         0x91 => Request::PhyControl {
             expected,
             phy,

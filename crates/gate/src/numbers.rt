@@ -1,4 +1,4 @@
-// The numbers that document 01 gives the house refusals and the function results.
+// The numbers that document 01 gives the house refusals and the function results, and #101 one more of these.
 use model::FunctionResult;
 use model::House;
 ghost use mathlib.Core.Path.{_≡_};
@@ -37,5 +37,6 @@ pub fn result_code(result: FunctionResult) -> u8
         FunctionResult::PhyVacant => 0x16,
         FunctionResult::UnknownPhyEventSource => 0x17,
         FunctionResult::SmpZoneViolation => 0x20,
+        FunctionResult::NoManagementAccessRights => 0x21,
     }
 }

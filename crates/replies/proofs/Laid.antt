@@ -16,11 +16,11 @@ use lib.Seq.{sets, sets-eq, take-all, take-length, drop-length, drop-drop}
 use Rattle.replies.specs.Lays.{Lays}
 use borrow.Rule.Slice.PartMut.{midOf, postOf, putMid, post-is}
 
-module _ (frame bytes : List ℕ) (at : ℕ) (fits : at + length bytes ≤ length frame) where
-  -- what the part from the place on holds after the copy
-  abbrev copied : List ℕ
-  copied = take (length bytes) bytes ++ drop (length bytes) (midOf at (length frame - at) frame)
+-- what the part of a frame from a place on holds after the copy
+abbrev pub copied : List ℕ → List ℕ → ℕ → List ℕ
+copied frame bytes at = take (length bytes) bytes ++ drop (length bytes) (midOf at (length frame - at) frame)
 
+module _ (frame bytes : List ℕ) (at : ℕ) (fits : at + length bytes ≤ length frame) where
   -- that part is all that lies behind the place
   part-all : midOf at (length frame - at) frame ≡ drop at frame
   part-all = take-all (length frame - at) (drop at frame) (omega (arith, length-drop at frame))
@@ -28,7 +28,7 @@ module _ (frame bytes : List ℕ) (at : ℕ) (fits : at + length bytes ≤ lengt
   rest-none : postOf at (length frame - at) frame ≡ []
   rest-none = post-is at (length frame) frame (omega arith) ∙ drop-length frame
 
-  pub laid-over : putMid at (length frame - at) frame copied ≡ sets frame at bytes
+  pub laid-over : putMid at (length frame - at) frame (copied frame bytes at) ≡ sets frame at bytes
   laid-over =
       rw (part-all, rest-none, take-length, drop-drop, append-nil, sets-eq bytes frame at fits, append-assoc)
 

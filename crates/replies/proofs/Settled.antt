@@ -8,6 +8,7 @@ use Rattle.replies.proofs.fixed.report_manufacturer
 use Rattle.replies.proofs.fixed.report_phy_error_log
 use Rattle.replies.proofs.fixed.report_phy_event
 use Rattle.replies.proofs.fixed.broadcast_descriptor
+use Rattle.replies.proofs.fixed.entry_descriptor
 use Rattle.replies.proofs.wire.two
 use Rattle.replies.proofs.sending.send_result
 
@@ -28,6 +29,9 @@ report-phy-event-settled = value-settles _ _ _ (λ κs a x y. refl)
 
 pub broadcast-descriptor-settled : Settled broadcast_descriptor.Kinds.ps broadcast_descriptor.Kinds.r broadcast_descriptor.Reads.Pre broadcast_descriptor.Reads.Post
 broadcast-descriptor-settled = value-settles _ _ _ (λ κs a x y. refl)
+
+pub entry-descriptor-settled : Settled entry_descriptor.Kinds.ps entry_descriptor.Kinds.r entry_descriptor.Reads.Pre entry_descriptor.Reads.Post
+entry-descriptor-settled = value-settles _ _ _ (λ κs a x y. refl)
 
 pub two-settled : Settled two.Kinds.ps two.Kinds.r two.Reads.Pre two.Reads.Post
 two-settled = value-settles _ _ _ (λ κs a x y. refl)

@@ -1,4 +1,5 @@
 -- What a function that lays bytes over a frame promises.
 pub mod Lays
--- What a function that sends a response promises. The crates above that send share it.
+-- What a function that sends a response promises, and one that writes a part of a list. The crates above that send share them.
 pub mod Sent
+pub mod Listed

@@ -4,13 +4,14 @@ use crate::lay::lay;
 use crate::lay::lay_byte;
 use crate::lay::lay_four;
 use crate::lay::lay_two;
+use model::Entry;
 use model::Monitor;
 use model::Phy;
 ghost use mathlib.Core.Path.{_≡_};
 ghost use Prim.Native.Nat.{_+_, _≤_};
 ghost use lib.ListN.{length};
 ghost use Rattle.model.specs.Reply.{failed, reportGeneral, reportManufacturer, reportPhyErrorLog};
-ghost use Rattle.model.specs.Reply.{eventDescriptor, reportPhyEvent, broadcastDescriptor};
+ghost use Rattle.model.specs.Reply.{eventDescriptor, reportPhyEvent, broadcastDescriptor, entryDescriptor};
 ghost use Rattle.replies.specs.Lays.{Lays};
 
 // "A failed response is 41h, the function, the result, 00h." With result 00h it is a write's response.
@@ -109,5 +110,16 @@ pub fn broadcast_descriptor(phy: u8, reason: u8, count: u16) -> [u8; 8]
     lay_byte(bytes, 0, phy);
     lay_byte(bytes, 2, reason);
     lay_two(bytes, 4, count);
+    descriptor
+}
+
+// A descriptor of 21h, #101: "12 bytes as in 14h with the phy at byte 2"
+pub fn entry_descriptor(e: Entry) -> [u8; 12]
+    ensures { λ r. ⌜ r ≡ entryDescriptor e ⌝ }
+{
+    let monitor = e.monitor;
+    let mut descriptor = event_descriptor(monitor);
+    let bytes = &mut descriptor[..];
+    lay_byte(bytes, 2, e.phy);
     descriptor
 }

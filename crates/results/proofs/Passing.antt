@@ -11,6 +11,7 @@ use Rattle.model.specs.declared.FunctionResult.the-variants.{InvalidRequestFram
 use Rattle.model.specs.declared.FunctionResult.the-variants.{InvalidExpanderChangeCount, PhyDoesNotExist}
 use Rattle.model.specs.declared.FunctionResult.the-variants.{UnknownPhyOperation, PhyVacant}
 use Rattle.model.specs.declared.FunctionResult.the-variants.{UnknownPhyEventSource, SmpZoneViolation}
+use Rattle.model.specs.declared.FunctionResult.the-variants.{NoManagementAccessRights}
 use Rattle.model.specs.declared.Grounds.{Grounds}
 use Rattle.model.specs.Results.{accepted, countRight, checkWrite}
 use Rattle.model.specs.Tests.{check}
@@ -18,7 +19,7 @@ use Rattle.model.proofs.FunctionResult.{the-type}
 
 -- the variants but `Accepted`, by their places in the enum
 abbrev others : List ℕ
-others = 1 ∷ 2 ∷ 3 ∷ 4 ∷ 5 ∷ 6 ∷ 7 ∷ 8 ∷ 9 ∷ []
+others = 1 ∷ 2 ∷ 3 ∷ 4 ∷ 5 ∷ 6 ∷ 7 ∷ 8 ∷ 9 ∷ 10 ∷ []
 
 -- what the `else` of a `let FunctionResult::Accepted = ..` knows: one of the other variants stands there
 abbrev pub Other : FunctionResult → Type 0
@@ -35,6 +36,7 @@ not-accepted UnknownPhyOperation e = refl
 not-accepted PhyVacant e = refl
 not-accepted UnknownPhyEventSource e = refl
 not-accepted SmpZoneViolation e = refl
+not-accepted NoManagementAccessRights e = refl
 
 -- A write that fails before its contents fails so, whatever they are; one that passes so far comes to what they come to.
 module _ (on : Grounds) (expected : ℕ) (contents : FunctionResult) where

@@ -4,6 +4,7 @@ use Rattle.model.specs.Settled.{Settled}
 use Rattle.model.proofs.Laws.Settling.{value-settles}
 use Rattle.results.proofs.check_read
 use Rattle.results.proofs.check_kind
+use Rattle.results.proofs.check_management
 use Rattle.results.proofs.check_control
 use Rattle.results.proofs.check_configure
 
@@ -12,6 +13,9 @@ check-read-settled = value-settles _ _ _ (λ κs a x y. refl)
 
 pub check-kind-settled : Settled check_kind.Kinds.ps check_kind.Kinds.r check_kind.Reads.Pre check_kind.Reads.Post
 check-kind-settled = value-settles _ _ _ (λ κs a x y. refl)
+
+pub check-management-settled : Settled check_management.Kinds.ps check_management.Kinds.r check_management.Reads.Pre check_management.Reads.Post
+check-management-settled = value-settles _ _ _ (λ κs a x y. refl)
 
 pub check-control-settled : Settled check_control.Kinds.ps check_control.Kinds.r check_control.Reads.Pre check_control.Reads.Post
 check-control-settled = value-settles _ _ _ (λ κs a x y. refl)

@@ -1,12 +1,12 @@
 // "Function results .. In this order, first failure decides": what a request that was read comes to, on the grounds that
-// may decide it (`model::Grounds`): the present change count, whether the request's phy exists, and whether the source
-// reaches it.
+// may decide it (`model::Grounds`): the present change count, whether the request's phy exists, whether the source
+// reaches it, and whether the source is group 1.
 use model::FunctionResult;
 use model::Grounds;
 use writes::descriptors::first_unsupported;
 ghost use mathlib.Core.Path.{_≡_};
 ghost use Rattle.model.specs.Results.{countRight, knownOperation, checkPhy, checkRead, checkWrite};
-ghost use Rattle.model.specs.Results.{checkKind, checkOperation, checkDescriptors};
+ghost use Rattle.model.specs.Results.{checkKind, checkOperation, checkDescriptors, checkManagement};
 ghost use Rattle.model.specs.declared.FunctionResult.the-variants.{Accepted};
 
 // Not 04h: "91h and 93h, when bytes 4 and 5 are neither 0000h nor the present count"
@@ -52,6 +52,17 @@ pub fn check_kind(kind: u8) -> FunctionResult
 {
     if 0x0F < kind {
         return FunctionResult::SmpFunctionFailed;
+    }
+    FunctionResult::Accepted
+}
+
+// #101, 21h: "only source group 1 may ask": "result 21h NO MANAGEMENT ACCESS RIGHTS for other sources comes directly after
+// 03h"
+pub fn check_management(on: Grounds) -> FunctionResult
+    ensures { λ r. ⌜ r ≡ checkManagement on ⌝ }
+{
+    if !on.management {
+        return FunctionResult::NoManagementAccessRights;
     }
     FunctionResult::Accepted
 }

@@ -2,6 +2,7 @@
 // phy's monitors on a peak source goes to 0".
 use crate::descriptors::descriptor_source;
 use crate::descriptors::descriptor_threshold;
+use crate::effects::quiet;
 use counters::counts::originate;
 use counters::sources::peak;
 use model::Effect;
@@ -14,7 +15,7 @@ ghost use lib.Dec.{ltb, eqb};
 ghost use Rattle.model.specs.Counting.{quiet};
 ghost use Rattle.model.specs.Sources.{peak};
 ghost use Rattle.model.specs.Writes.{setMonitor, setMonitors, setOn};
-ghost use Rattle.model.specs.Writes.{clearMonitor, anyPeak, clearOn, configured};
+ghost use Rattle.model.specs.Writes.{clearMonitor, anyPeak, peaks, clearOn, configured};
 
 // "a changed source sets the value to 0, the same source keeps it"
 fn kept_value(source: u8, before: Monitor) -> u32
@@ -113,13 +114,26 @@ fn any_peak(monitors: [Monitor; 4]) -> bool
     on_peak(monitors[0]) | on_peak(monitors[1]) | on_peak(monitors[2]) | on_peak(monitors[3])
 }
 
+// #101: "every peak monitor of the phy", as marks "in monitor order"
+fn peaks(before: [Monitor; 4]) -> [bool; 4]
+    ensures { λ r. ⌜ r ≡ peaks before ⌝ }
+{
+    [
+        on_peak(before[0]),
+        on_peak(before[1]),
+        on_peak(before[2]),
+        on_peak(before[3]),
+    ]
+}
+
 // "Then, if clearing": the phy once its peaks are cleared. "Expander 2h is originated once" where it has
-// one.
+// one. #101: "each Expander 2h stores every peak monitor of the phy with its value before the clear".
 fn clear_on(before: Phy) -> Effect
     ensures { λ r. ⌜ r ≡ clearOn before ⌝ }
 {
     let monitors = before.monitors;
     let cleared = clear_monitors(monitors);
+    let marks = peaks(monitors);
     let mut after = before;
     after.monitors = cleared;
     if any_peak(monitors) {
@@ -128,6 +142,8 @@ fn clear_on(before: Phy) -> Effect
     Effect {
         phy: after,
         change: false,
+        monitors,
+        stored: marks,
     }
 }
 
@@ -138,10 +154,7 @@ fn clear_if(clear: bool, before: Phy) -> Effect
     if clear {
         clear_on(before)
     } else {
-        Effect {
-            phy: before,
-            change: false,
-        }
+        quiet(before)
     }
 }
 

@@ -1,4 +1,5 @@
 // What an accepted 91h does to its phy.
+use crate::effects::quiet;
 use counters::phy::change_on;
 use model::Effect;
 use model::Phy;
@@ -24,18 +25,9 @@ pub fn controlled(operation: u8, before: Phy) -> Effect
         0x03 => if before.enabled {
             change_on(false, before)
         } else {
-            Effect {
-                phy: before,
-                change: false,
-            }
+            quiet(before)
         },
-        0x05 => Effect {
-            phy: without_errors(before),
-            change: false,
-        },
-        _ => Effect {
-            phy: before,
-            change: false,
-        },
+        0x05 => quiet(without_errors(before)),
+        _ => quiet(before),
     }
 }

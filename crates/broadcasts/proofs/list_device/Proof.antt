@@ -3,7 +3,7 @@ use borrow.Author.Needs.{needs}
 use native.Mathlib.Omega.{arith}
 use borrow.Author.Tests.{ne-eqb}
 use Rattle.model.specs.Reply.{deviceListed}
-use Rattle.broadcasts.proofs.Listing.{lists-none}
+use Rattle.replies.proofs.Listing.{lists-none}
 use Rattle.broadcasts.proofs.list_device.Statement.{statement}
 use Rattle.broadcasts.proofs.list_device.Tie as tie
 

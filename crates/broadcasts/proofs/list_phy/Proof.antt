@@ -4,7 +4,7 @@ use native.Mathlib.Omega.{arith}
 use borrow.Author.Tests.{ne-eqb}
 use Rattle.model.specs.Reply.{phyListed}
 use Rattle.model.proofs.Demands.Frames.{listed-few}
-use Rattle.broadcasts.proofs.Listing.{lists-none, lists-append, lists-length}
+use Rattle.replies.proofs.Listing.{lists-none, lists-append, lists-length}
 use Rattle.broadcasts.proofs.list_phy.Statement.{statement}
 use Rattle.broadcasts.proofs.list_phy.Tie as tie
 

@@ -4,7 +4,7 @@ use mathlib.Core.Path.{_≡_, sym, _∙_}
 use mathlib.Core.Bool.{true, false}
 use borrow.Author.Tests.{not-true, not-false}
 use Rattle.model.specs.Zone.{rowReaches}
-use Rattle.broadcasts.proofs.Listing.{lists-none}
+use Rattle.replies.proofs.Listing.{lists-none}
 use Rattle.broadcasts.proofs.list_seen.Statement.{statement}
 use Rattle.broadcasts.proofs.list_seen.Tie as tie
 

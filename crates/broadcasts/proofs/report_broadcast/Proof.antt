@@ -25,7 +25,7 @@ returns-2 c =
     let told = made .before in
     let walked = told .before .before .before .before in
     let a = walked .before .before .before .before .args in
-    report-sent (shelfOf (a .words .now)) (a .source) (a .kind) (a .out .now) (omega arith)
+    report-sent (shelfOf (a .words .now)) (a .source) (a .kind) (omega arith)
     (walked .list-all .ensures) (rw (told .low16 .ensures) at (made .broadcast-head .ensures)) (copied .copy .ensures .1) (omega arith)
 
 pub report-broadcast-spec : {M : Type 1} → statement M

@@ -48,17 +48,28 @@ returns-6 : tie.Need-returns-6
 unfolding asked
 returns-6 c =
     rw (
-      function-is (c .before .before) (c .before .match .keys6),
-      expected-is (c .before .before),
-      c .before .before .byte-at4 .ensures,
-      c .byte-at6 .ensures,
+      function-is (c .before .before .before .before) (c .before .before .before .match .keys6),
+      c .word-of2 .ensures,
+      c .before .before .byte-at6 .ensures,
+      c .before .byte-at7 .ensures,
     )
 
 returns-7 : tie.Need-returns-7
 unfolding asked
 returns-7 c =
+    rw (
+      function-is (c .before .before) (c .before .match .keys7),
+      expected-is (c .before .before),
+      c .before .before .byte-at4 .ensures,
+      c .byte-at8 .ensures,
+    )
+
+returns-8 : tie.Need-returns-8
+unfolding asked
+returns-8 c =
     simp (
       sym (c .before .before .before .before .before .before .before .byte-at .ensures),
+      ne-eqb _ _ (c .before .before .match .rest .0 .0 .0 .0 .0 .0 .1),
       ne-eqb _ _ (c .before .before .match .rest .0 .0 .0 .0 .0 .1),
       ne-eqb _ _ (c .before .before .match .rest .0 .0 .0 .0 .1),
       ne-eqb _ _ (c .before .before .match .rest .0 .0 .0 .1),
@@ -67,8 +78,8 @@ returns-7 c =
       ne-eqb _ _ (c .before .before .match .rest .1),
       expected-is (c .before .before .before),
       c .before .before .before .byte-at4 .ensures,
-      c .before .byte-at7 .ensures,
-      c .byte-at8 .ensures,
+      c .before .byte-at9 .ensures,
+      c .byte-at10 .ensures,
       div-one,
     )
 
@@ -77,4 +88,5 @@ asked-spec =
     tie.close
     (tie.spec
     (search needs) (search needs) (search needs) (search needs) (search needs) (search needs) (search needs) (search needs)
-    (search needs) (search needs) returns returns-2 returns-3 returns-4 returns-5 returns-6 returns-7)
+    (search needs) (search needs) (search needs) (search needs) (search needs) returns returns-2 returns-3 returns-4 returns-5 returns-6
+    returns-7 returns-8)

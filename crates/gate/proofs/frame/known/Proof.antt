@@ -1,4 +1,4 @@
--- `gate::frame::known` meets its contract: `oneOf` of the seven functions is the row of comparisons. Assumes nothing.
+-- `gate::frame::known` meets its contract: `oneOf` of the eight functions is the row of comparisons. Assumes nothing.
 use mathlib.Core.Bool.{or-assoc, or-false}
 use Rattle.model.specs.Request.{known}
 use Rattle.gate.proofs.frame.known.Statement.{statement}

@@ -48,13 +48,19 @@ returns-6 c =
 returns-7 : tie.Need-returns-7
 unfolding lengthRight
 returns-7 c =
-    simp (function-is (c .before) (c .match .keys7), c .before .before .byte-at2 .ensures, c .before .byte-at3 .ensures, or-false)
+    simp (function-is (c .before) (c .match .keys7), c .before .before .byte-at2 .ensures, or-false)
 
 returns-8 : tie.Need-returns-8
 unfolding lengthRight
 returns-8 c =
+    simp (function-is (c .before) (c .match .keys8), c .before .before .byte-at2 .ensures, c .before .byte-at3 .ensures, or-false)
+
+returns-9 : tie.Need-returns-9
+unfolding lengthRight
+returns-9 c =
     simp (
       sym (c .before .before .before .byte-at .ensures),
+      ne-eqb _ _ (c .match .rest .0 .0 .0 .0 .0 .0 .0 .1),
       ne-eqb _ _ (c .match .rest .0 .0 .0 .0 .0 .0 .1),
       ne-eqb _ _ (c .match .rest .0 .0 .0 .0 .0 .1),
       ne-eqb _ _ (c .match .rest .0 .0 .0 .0 .1),
@@ -69,4 +75,4 @@ length-right-spec =
     tie.close
     (tie.spec
     (search needs) (search needs) (search needs) (search needs) (search needs) (search needs) (search needs) (search needs)
-    (search needs) returns returns-2 returns-3 returns-4 returns-5 returns-6 returns-7 returns-8)
+    (search needs) returns returns-2 returns-3 returns-4 returns-5 returns-6 returns-7 returns-8 returns-9)

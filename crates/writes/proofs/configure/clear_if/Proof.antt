@@ -7,7 +7,7 @@ returns : tie.Need-returns
 returns c = rw (c .before .if1 .taken) (c .clear-on .ensures)
 
 returns-2 : tie.Need-returns-2
-returns-2 c = rw (c .if1 .left)
+returns-2 c = rw (c .before .if1 .left) (c .quiet .ensures)
 
 pub clear-if-spec : {M : Type 1} → statement M
-clear-if-spec = tie.close (tie.spec (search needs) returns returns-2)
+clear-if-spec = tie.close (tie.spec (search needs) (search needs) returns returns-2)
