@@ -1,16 +1,35 @@
--- What is done to a phy is carried out on the words: its record is put back, with the change count after it. One law for the two writes
--- and the two reports. Assumes nothing.
+-- What is done to a phy is carried out on the words: its record is put back, with the change count after it, and what is marked of its
+-- monitors is stored. One law for the two writes and the two reports. Assumes nothing.
 use Prim.Native.Nat.{ℕ}
-use mathlib.Core.Path.{_≡_}
+use mathlib.Core.Path.{_≡_, sym, ap, _∙_}
 use mathlib.Core.List.{List}
 use Rattle.model.specs.declared.Effect.{Effect}
 use Rattle.model.specs.declared.Phy.{Phy}
-use Rattle.model.specs.Counting.{originateIf, carriedOut}
-use Rattle.model.specs.Shelf.{phyAt, put}
+use Rattle.model.specs.Counting.{originateIf}
+use Rattle.model.specs.Shelf.{phyAt, put, putStore}
+use Rattle.model.specs.Store.{storeAll, entriesOf, carriedOut}
+use lib.ListN.{length}
+use Rattle.words.specs.Sizes.{shelfWords}
 use Rattle.words.specs.Words.{shelfOf, laidOver}
+use Rattle.words.proofs.Storing.{carried-out}
 
 -- from what the calls promise: the phy was read, this is done to it, the count is the one after that, and both were put back
-pub carried : (ws : List ℕ) (p : ℕ) (f : Phy → Effect) {x : Phy} {e : Effect} {count : ℕ} {after : List ℕ}
-    → x ≡ phyAt (shelfOf ws) p → e ≡ f x → count ≡ originateIf (e .change) (shelfOf ws .changes)
-    → after ≡ laidOver ws (put (shelfOf ws) p (e .phy) count) → after ≡ laidOver ws (carriedOut (shelfOf ws) p (f (phyAt (shelfOf ws) p)))
-carried ws p f read made moved stored = rw (← read, ← made, ← moved) stored
+module _ (ws : List ℕ) (p : ℕ) (f : Phy → Effect) {x : Phy} {e : Effect} {count : ℕ} {now : List ℕ} (read : x ≡ phyAt (shelfOf ws) p)
+    (made : e ≡ f x) (moved : count ≡ originateIf (e .change) (shelfOf ws .changes))
+    (is-now : now ≡ laidOver ws (put (shelfOf ws) p (e .phy) count))
+  where
+    -- where nothing is stored that is all
+    pub carried : storeAll (shelfOf ws .store) (entriesOf p (f (phyAt (shelfOf ws) p))) ≡ shelfOf ws .store
+        → now ≡ laidOver ws (carriedOut (shelfOf ws) p (f (phyAt (shelfOf ws) p)))
+    carried none =
+        let done : Effect = f (phyAt (shelfOf ws) p) in
+        let n : ℕ = originateIf (done .change) (shelfOf ws .changes) in
+        rw (← read, ← made) (is-now ∙ ap (λ n. laidOver ws (put (shelfOf ws) p (e .phy) n)) moved
+        ∙ ap (λ k. laidOver ws (putStore (put (shelfOf ws) p (e .phy) (originateIf (e .change) (shelfOf ws .changes))) k))
+        (sym (rw (← read, ← made) at none)))
+
+    -- and else what is marked is stored after it
+    pub carried-stored : length ws ≡ shelfWords → {next : List ℕ}
+        → next ≡ laidOver now (putStore (shelfOf now) (storeAll (shelfOf now .store) (entriesOf p e)))
+        → next ≡ laidOver ws (carriedOut (shelfOf ws) p (f (phyAt (shelfOf ws) p)))
+    carried-stored long is-next = rw (← read, ← made) (carried-out ws long p e moved is-now is-next)

@@ -2,7 +2,7 @@
 // 32 bits (crate `words`) and lends to each call.
 //
 // The shelf stays where it is. Each function takes the pieces that it needs out of the words, has the other crates
-// decide and count on them by value, and puts back at most one phy's record and the counts. Data flows one way: the
+// decide and count on them by value, and puts back at most one phy's record, the counts and what is stored. Data flows one way: the
 // frame is judged (crate `gate`), the judged request is decided from pieces of the shelf (crate `results`), the result
 // draws the response and, where it is accepted, has its effect.
 //
@@ -12,6 +12,7 @@ mod pieces;
 mod reach;
 mod reads;
 mod request;
+mod storing;
 mod writing;
 
 use crate::pieces::changes_after;
@@ -19,6 +20,7 @@ use crate::pieces::there;
 use crate::reach::reach_set;
 use crate::request::serve_asked;
 use crate::request::turned_away;
+use crate::storing::store_marked;
 use counters::counts::originate;
 use counters::phy::change_on;
 use counters::phy::event_on;
@@ -91,7 +93,8 @@ pub fn serve(words: &mut [u32; WORDS], source: u32, frame: &[u8], out: &mut [u8]
     Answer::Response(serve_asked(words, source, frame, request, function, out))
 }
 
-// An event report: the phy that it names counts it, or it is refused, and the shelf is as it was.
+// An event report: the phy that it names counts it, and each monitor that crossed is stored; or it is refused, and the shelf
+// is as it was.
 pub fn event(words: &mut [u32; WORDS], phy: u32, source: u32, amount: u32) -> Taken
     ensures told { λ r. ⌜ r ≡ event (shelfOf (now (words .entry))) phy source amount .taken ⌝ }
     ensures kept { λ _.
@@ -105,8 +108,11 @@ pub fn event(words: &mut [u32; WORDS], phy: u32, source: u32, amount: u32) -> Ta
     };
     let done = event_on(source, amount, phy_at(words, phy));
     let after = done.phy;
+    let monitors = done.monitors;
+    let stored = done.stored;
     let changes = changes_after(words, done.change);
     put(words, phy, after, changes);
+    store_marked(words, phy as u8, monitors, stored);
     Taken::Done
 }
 

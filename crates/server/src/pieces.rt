@@ -44,7 +44,7 @@ fn reached(words: &[u32; WORDS], source: u32, phy: u32) -> bool
     smp_row_reaches(row(words, source), numbers.group)
 }
 
-// What may decide a request from a source that names this phy.
+// What may decide a request from a source that names this phy. Group 1 has management access rights.
 pub(crate) fn grounds(words: &[u32; WORDS], source: u32, phy: u32) -> Grounds
     ensures { λ r. ⌜ r ≡ grounds (shelfOf (now (words .entry))) source phy ⌝ }
 {
@@ -52,5 +52,6 @@ pub(crate) fn grounds(words: &[u32; WORDS], source: u32, phy: u32) -> Grounds
         changes: changes(words),
         there: there(words, phy),
         reached: reached(words, source, phy),
+        management: source == 1,
     }
 }

@@ -3,12 +3,14 @@ use crate::pieces::changes;
 use crate::pieces::grounds;
 use broadcasts::report_broadcast;
 use model::FunctionResult;
+use peaks::report_phy_event_list;
 use replies::fixed::report_general;
 use replies::fixed::report_manufacturer;
 use replies::fixed::report_phy_error_log;
 use replies::fixed::report_phy_event;
 use replies::sending::send_result;
 use results::check_kind;
+use results::check_management;
 use results::check_read;
 use shelf::phys::phy_number;
 use words::WORDS;
@@ -17,9 +19,9 @@ use words::read::phy_at;
 ghost use mathlib.Core.Path.{_≡_};
 ghost use Prim.Native.Nat.{_≤_};
 ghost use lib.ListN.{length};
-ghost use Rattle.model.specs.declared.Request.the-variants.{ReportBroadcast, ReportPhyErrorLog, ReportPhyEvent};
+ghost use Rattle.model.specs.declared.Request.the-variants.{ReportBroadcast, ReportPhyErrorLog, ReportPhyEvent, ReportPhyEventList};
 ghost use Rattle.model.specs.Reply.{reportGeneral, reportManufacturer};
-ghost use Rattle.model.specs.Results.{grounds, checkKind, checkRead};
+ghost use Rattle.model.specs.Results.{grounds, checkKind, checkRead, checkManagement};
 ghost use Rattle.model.specs.Server.{leastBuffer};
 ghost use Rattle.model.specs.Shelf.{phyNumber};
 ghost use Rattle.server.specs.Serving.{drawn};
@@ -123,4 +125,25 @@ pub(crate) fn serve_phy_event(
         &report_phy_event(changes(words), phy, phy_at(words, phy as u32)),
         out,
     )
+}
+
+// 21h, #101: "only source group 1 may ask"
+pub(crate) fn serve_event_list(
+    words: &[u32; WORDS],
+    source: u32,
+    start: u16,
+    function: u8,
+    out: &mut [u8],
+) -> usize
+    requires { ⌜ leastBuffer ≤ length (now out) ⌝ }
+    ensures { λ r.
+        ⌜ Answers (now (out .entry))
+        (drawn (shelfOf (now (words .entry))) source (ReportPhyEventList start) function (checkManagement (grounds (shelfOf (now (words .entry))) source 0)))
+        r (now (out .exit)) ⌝ }
+{
+    let result = check_management(grounds(words, source, 0));
+    let FunctionResult::Accepted = result else {
+        return send_result(function, result, out);
+    };
+    report_phy_event_list(words, start, out)
 }

@@ -1,6 +1,7 @@
 // One request, once its frame is judged.
 use crate::reads::serve_broadcast;
 use crate::reads::serve_error_log;
+use crate::reads::serve_event_list;
 use crate::reads::serve_general;
 use crate::reads::serve_manufacturer;
 use crate::reads::serve_phy_event;
@@ -60,6 +61,13 @@ pub(crate) fn serve_asked(
         Request::ReportBroadcast { kind } => serve_broadcast(words, source, kind, function, out),
         Request::ReportPhyErrorLog { phy } => serve_error_log(words, source, phy, function, out),
         Request::ReportPhyEvent { phy } => serve_phy_event(words, source, phy, function, out),
+        Request::ReportPhyEventList { start } => serve_event_list(
+            words,
+            source,
+            start,
+            function,
+            out,
+        ),
         Request::PhyControl {
             expected,
             phy,

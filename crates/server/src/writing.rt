@@ -2,6 +2,7 @@
 // its response.
 use crate::pieces::changes_after;
 use crate::pieces::grounds;
+use crate::storing::store_marked;
 use model::FunctionResult;
 use replies::sending::send_result;
 use results::check_configure;
@@ -15,16 +16,16 @@ ghost use mathlib.Core.Path.{_≡_};
 ghost use Prim.Native.Nat.{_≤_};
 ghost use lib.ListN.{length};
 ghost use Rattle.model.specs.declared.Request.the-variants.{PhyControl, ConfigurePhyEvent};
-ghost use Rattle.model.specs.Counting.{carriedOut};
 ghost use Rattle.model.specs.Results.{grounds, checkWrite, checkOperation, checkDescriptors};
 ghost use Rattle.model.specs.Server.{leastBuffer};
 ghost use Rattle.model.specs.Shelf.{phyAt};
+ghost use Rattle.model.specs.Store.{carriedOut};
 ghost use Rattle.model.specs.Writes.{controlled, configured};
 ghost use Rattle.server.specs.Answers.{Answers, leavesWords};
 ghost use Rattle.server.specs.Serving.{drawn};
 ghost use Rattle.words.specs.Words.{shelfOf, laidOver};
 
-// An accepted 91h: what it does to its phy is carried out on the words.
+// An accepted 91h: what it does to its phy is carried out on the words. It stores nothing.
 fn control(words: &mut [u32; WORDS], phy: u8, operation: u8)
     ensures { λ _.
         ⌜ now (words .exit)
@@ -38,7 +39,7 @@ fn control(words: &mut [u32; WORDS], phy: u8, operation: u8)
     put(words, phy as u32, after, changes);
 }
 
-// An accepted 93h with d descriptors, likewise.
+// An accepted 93h with d descriptors, likewise, and a clear stores the peaks.
 fn configure(words: &mut [u32; WORDS], frame: &[u8], clear: bool, phy: u8, d: u8)
     ensures { λ _.
         ⌜ now (words .exit)
@@ -46,11 +47,15 @@ fn configure(words: &mut [u32; WORDS], frame: &[u8], clear: bool, phy: u8, d: u8
         (carriedOut (shelfOf (now (words .entry))) phy
         (configured (now (frame .entry)) d clear (phyAt (shelfOf (now (words .entry))) phy))) ⌝ }
 {
+    let all: &[u32] = words;
     let before = phy_at(words, phy as u32);
     let done = configured(frame, d, clear, before);
     let after = done.phy;
+    let monitors = done.monitors;
+    let stored = done.stored;
     let changes = changes_after(words, done.change);
     put(words, phy as u32, after, changes);
+    store_marked(words, phy, monitors, stored);
 }
 
 // 91h. "Response 4 bytes": the result, accepted or not.

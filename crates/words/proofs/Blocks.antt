@@ -1,6 +1,6 @@
--- Rows of blocks, whatever a block is: what is read of a row, what is laid, the same words again, what was laid is read again, one block
--- laid anew, one block more. Each law is one induction, over a block's size, reader and writer, from what holds of one block alone
--- (`Block`). `Pieces` has the blocks of a shelf. Assumes nothing.
+-- Rows of blocks, whatever a block is: what is read of a row, what is laid, the same words again, what was laid is read again, a row laid
+-- over another, one block laid anew, one block more. Each law is one induction, over a block's size, reader and writer, from what holds of
+-- one block alone (`Block`, and `Fitting` for the widths of its words). `Pieces` has the blocks of a shelf. Assumes nothing.
 use Prim.Native.Nat.{ℕ, zero, suc, _+_, _*_, _≤_, _<_}
 use native.Mathlib.Nat.{add-zero, mul-zero, mul-suc}
 use native.Mathlib.Omega.{arith}
@@ -12,17 +12,22 @@ use Rattle.model.proofs.Laws.Places.{All, sets-append}
 use Rattle.words.specs.Memory.{WordsFit}
 use Rattle.words.specs.Words.{rowOf, rowOver}
 
--- What a block must have: of `size` words, read by `of` and laid by `over`, where `Fit` says that its numbers have their widths. At place
+-- What a block must have: of `size` words, read by `of` and laid by `over`, where `Low` says that its narrow numbers are narrow. At place
 -- 0 is enough, since it is read off its own words, and laid over them, alone.
-pub record Block {A : Type 0} (size : ℕ) (of : List ℕ → ℕ → A) (over : List ℕ → ℕ → A → List ℕ) (Fit : A → Type 0) : Type 0 where
+pub record Block {A : Type 0} (size : ℕ) (of : List ℕ → ℕ → A) (over : List ℕ → ℕ → A → List ℕ) (Low : A → Type 0) : Type 0 where
   pub of-from : (ws : List ℕ) (at : ℕ) → of ws at ≡ of (drop at ws) 0
   pub over-from : (ws : List ℕ) (at : ℕ) (x : A) → over ws at x ≡ over (drop at ws) 0 x
   pub sized : (ws : List ℕ) (x : A) → length (over ws 0 x) ≡ size
   -- the same words again
   pub same : (ws : List ℕ) → size ≤ length ws → over ws 0 (of ws 0) ≡ take size ws
   -- what was laid is read, whatever stands behind it
-  pub back : (ws rest : List ℕ) (x : A) → Fit x → of (over ws 0 x ++ rest) 0 ≡ x
-  -- words of 32 bits stand for what fits, and what fits is laid as words of 32 bits
+  pub back : (ws rest : List ℕ) (x : A) → Low x → of (over ws 0 x ++ rest) 0 ≡ x
+  -- and nothing of it is left where another is laid over it
+  pub anew : (ws rest : List ℕ) (x y : A) → Low x → over (over ws 0 x ++ rest) 0 y ≡ over ws 0 y
+
+-- What a block of words of 32 bits must have besides, where `Fit` says that all its numbers have their widths: such words stand for what
+-- fits, and what fits is laid as such words.
+pub record Fitting {A : Type 0} (of : List ℕ → ℕ → A) (over : List ℕ → ℕ → A → List ℕ) (Fit : A → Type 0) : Type 0 where
   pub stands : (ws : List ℕ) → WordsFit ws → Fit (of ws 0)
   pub laid : (ws : List ℕ) (x : A) → WordsFit ws → Fit x → WordsFit (over ws 0 x)
 
@@ -49,7 +54,7 @@ module _ (n at p : ℕ) where
   more : at + n * suc p ≡ at + n + n * p
   more = omega (arith, mul-suc n p)
 
-module _ {A : Type 0} {size : ℕ} {of : List ℕ → ℕ → A} {over : List ℕ → ℕ → A → List ℕ} {Fit : A → Type 0} (b : Block size of over Fit)
+module _ {A : Type 0} {size : ℕ} {of : List ℕ → ℕ → A} {over : List ℕ → ℕ → A → List ℕ} {Low : A → Type 0} (b : Block size of over Low)
     (ws : List ℕ)
   where
     -- ---- One block, at any place
@@ -60,8 +65,8 @@ module _ {A : Type 0} {size : ℕ} {of : List ℕ → ℕ → A} {over : List �
     same-at : (at : ℕ) → at + size ≤ length ws → over ws at (of ws at) ≡ take size (drop at ws)
     same-at at room = rw (b .over-from ws at (of ws at), b .of-from ws at) (b .same (drop at ws) (omega (arith, length-drop at ws)))
 
-    pub stands-at : WordsFit ws → (at : ℕ) → Fit (of ws at)
-    stands-at fit at = rw (b .of-from ws at) (b .stands (drop at ws) (drop-fit ws at fit))
+    pub stands-at : {Fit : A → Type 0} → Fitting of over Fit → WordsFit ws → (at : ℕ) → Fit (of ws at)
+    stands-at w fit at = rw (b .of-from ws at) (w .stands (drop at ws) (drop-fit ws at fit))
 
     -- ---- What is read
 
@@ -75,9 +80,9 @@ module _ {A : Type 0} {size : ℕ} {of : List ℕ → ℕ → A} {over : List �
     row-at (suc n) zero at d h = rw (none size at 0)
     row-at (suc n) (suc p) at d h = rw (more size at p) (row-at n p (at + size) d (omega arith))
 
-    pub row-stands : WordsFit ws → (n at : ℕ) → All Fit (rowOf size of n ws at)
-    row-stands fit zero at = tt
-    row-stands fit (suc n) at = (stands-at fit at, row-stands fit n (at + size))
+    pub row-each : (P : A → Type 0) → ((at : ℕ) → P (of ws at)) → (n at : ℕ) → All P (rowOf size of n ws at)
+    row-each P each zero at = tt
+    row-each P each (suc n) at = (each at, row-each P each n (at + size))
 
     -- ---- What is laid
 
@@ -87,12 +92,13 @@ module _ {A : Type 0} {size : ℕ} {of : List ℕ → ℕ → A} {over : List �
         rw (length-append (over ws at x) (rowOver size over ws (at + size) xs), size-at at x, row-laid-size (at + size) xs)
         (omega (arith, mul-suc size (length xs)))
 
-    pub row-laid : WordsFit ws → (at : ℕ) (xs : List A) → All Fit xs → WordsFit (rowOver size over ws at xs)
-    row-laid fit at [] f = λ i. omega arith
-    row-laid fit at (x ∷ xs) f =
+    pub row-laid : {Fit : A → Type 0} → Fitting of over Fit → WordsFit ws → (at : ℕ) (xs : List A) → All Fit xs
+        → WordsFit (rowOver size over ws at xs)
+    row-laid w fit at [] f = λ i. omega arith
+    row-laid w fit at (x ∷ xs) f =
         append-fit (over ws at x) (rowOver size over ws (at + size) xs)
-        (rw (b .over-from ws at x) (b .laid (drop at ws) x (drop-fit ws at fit) (f .0)))
-        (row-laid fit (at + size) xs (f .1))
+        (rw (b .over-from ws at x) (w .laid (drop at ws) x (drop-fit ws at fit) (f .0)))
+        (row-laid w fit (at + size) xs (f .1))
 
     pub row-append : (at : ℕ) (xs ys : List A)
         → rowOver size over ws at (xs ++ ys) ≡ rowOver size over ws at xs ++ rowOver size over ws (at + size * length xs) ys
@@ -117,7 +123,7 @@ module _ {A : Type 0} {size : ℕ} {of : List ℕ → ℕ → A} {over : List �
 
     -- ---- What was laid is read again
 
-    pub row-back : (xs : List A) (at i : ℕ) (vs rest : List ℕ) → All Fit xs → drop i vs ≡ rowOver size over ws at xs ++ rest
+    pub row-back : (xs : List A) (at i : ℕ) (vs rest : List ℕ) → All Low xs → drop i vs ≡ rowOver size over ws at xs ++ rest
         → rowOf size of (length xs) vs i ≡ xs
     row-back [] at i vs rest f e = refl
     row-back (x ∷ xs) at i vs rest f e =
@@ -126,6 +132,20 @@ module _ {A : Type 0} {size : ℕ} {of : List ℕ → ℕ → A} {over : List �
         let here : of vs i ≡ x = rw (b .of-from vs i, all, b .over-from ws at x) (b .back (drop at ws) others x (f .0)) in
         let behind : drop (i + size) vs ≡ others = rw (← drop-drop size i vs, all) (drop-at (over ws at x) others size (size-at at x)) in
         rw (here, row-back xs (at + size) (i + size) vs rest (f .1) behind)
+
+    -- ---- Laid over what was laid before, of which nothing is left
+
+    pub row-anew : (xs ys : List A) (at : ℕ) (vs rest : List ℕ) → All Low xs → length ys ≤ length xs
+        → drop at vs ≡ rowOver size over ws at xs ++ rest → rowOver size over vs at ys ≡ rowOver size over ws at ys
+    row-anew xs [] at vs rest f few e = refl
+    row-anew [] (y ∷ ys) at vs rest f few e = absurd (omega arith)
+    row-anew (x ∷ xs) (y ∷ ys) at vs rest f few e =
+        let others : List ℕ = rowOver size over ws (at + size) xs ++ rest in
+        let all : drop at vs ≡ over ws at x ++ others = e ∙ append-assoc (over ws at x) (rowOver size over ws (at + size) xs) rest in
+        let here : over vs at y ≡ over ws at y =
+        rw (b .over-from vs at y, all, b .over-from ws at x, b .over-from ws at y) (b .anew (drop at ws) others x y (f .0)) in
+        let behind : drop (at + size) vs ≡ others = rw (← drop-drop size at vs, all) (drop-at (over ws at x) others size (size-at at x)) in
+        rw (here, row-anew xs ys (at + size) vs rest (f .1) (omega arith) behind)
 
     -- ---- One block laid anew
 

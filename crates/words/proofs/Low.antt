@@ -16,6 +16,10 @@ low-same size w = div-add-mod' w size
 pub low-back : (size w n : ℕ) → n < size → lowSet size w n % size ≡ n
 low-back size w n below = mul-add-mod-self-right (w / size) size n ∙ mod-eq-of-lt below
 
+-- a number laid over one that was laid before: nothing is left of that one
+pub low-anew : (size w n m : ℕ) → n < size → lowSet size (lowSet size w n) m ≡ lowSet size w m
+low-anew size w n m below = omega (arith, low-same size (lowSet size w n), low-back size w n below)
+
 -- where `size` divides 2 ^ 32
 pub low-fits : (size w n : ℕ) → 0x100000000 / size * size ≡ 0x100000000 → w ≤ 0xFFFFFFFF → n < size → lowSet size w n ≤ 0xFFFFFFFF
 low-fits size w n whole h below =

@@ -1,5 +1,5 @@
--- The blocks of a shelf, a monitor and a phy: each is read off its own words, and laid over them, as `Blocks` asks. What knows the fields
--- of a monitor or of a phy stands here. Assumes nothing.
+-- The blocks of a shelf, a monitor, a phy and an entry of the list of stored peak events: each is read off its own words, and laid over
+-- them, as `Blocks` asks. What knows the fields of one stands here. Assumes nothing.
 use Prim.Native.Nat.{ℕ, zero, suc, _+_, _≤_}
 use native.Mathlib.Nat.{add-zero, add-assoc}
 use native.Mathlib.Omega.{arith}
@@ -8,17 +8,18 @@ use mathlib.Core.Bool.{cond}
 use mathlib.Core.List.{List, [], _∷_, _++_, map}
 use lib.ListN.{length, getD, take, drop}
 use lib.Seq.{sets, drop-cons, getD-drop, take-all}
+use Rattle.model.specs.declared.Entry.{Entry}
 use Rattle.model.specs.declared.Phy.{Phy}
-use Rattle.model.specs.Fits.{MonitorFits, PhyFits}
+use Rattle.model.specs.Fits.{MonitorFits, PhyFits, EntryFits}
 use Rattle.model.specs.Reply.{monitorAt}
 use Rattle.model.specs.Shelf.{freshMonitor}
 use Rattle.model.proofs.Laws.Places.{All, all-each, sets-append}
 use Rattle.words.specs.Memory.{WordsFit}
-use Rattle.words.specs.Sizes.{monitorWords, phyMonitors, phyCounts, phyWords}
+use Rattle.words.specs.Sizes.{monitorWords, phyMonitors, phyCounts, phyWords, entryWords}
 use Rattle.words.specs.Words.{wordAt, lowSet, monitorOf, monitorOver, four, monitorsOf, monitorsOver}
-use Rattle.words.specs.Words.{headOver, countsOver, phyOf, phyOver}
-use Rattle.words.proofs.Low.{low-same, low-back, low-fits, bit-below, bit-back, bit-same}
-use Rattle.words.proofs.Blocks.{Block, append-fit, row-stands, row-laid, row-back}
+use Rattle.words.specs.Words.{headOver, countsOver, phyOf, phyOver, entryFrom, entryOver}
+use Rattle.words.proofs.Low.{low-same, low-back, low-anew, low-fits, bit-below, bit-back, bit-same}
+use Rattle.words.proofs.Blocks.{Block, Fitting, append-fit, stands-at, row-each, row-laid, row-back}
 
 -- ---- Lists, place by place
 
@@ -57,6 +58,12 @@ monitor-block =
       sized = λ ws m. refl;
       same = λ ws room. rw (low-same 0x100 (wordAt ws 0)) (places-are 0 ws monitorWords 0 room);
       back = λ ws rest m f. rw (low-back 0x100 (wordAt ws 0) (m .source) (omega (arith, f .source)));
+      anew = λ ws rest m n f. rw (low-anew 0x100 (wordAt ws 0) (m .source) (n .source) (omega (arith, f .source)));
+    }
+
+pub monitor-fitting : Fitting monitorOf monitorOver MonitorFits
+monitor-fitting =
+    record {
       stands = λ ws fit. record { source = omega arith; value = fit 1; threshold = fit 2 };
       laid = λ ws m fit f.
           all-fit (monitorOver ws 0 m)
@@ -87,6 +94,19 @@ module _ (ws : List ℕ) where
         places-all 0 (x .errors) 4 (f .errors-size),
       )
 
+  phy-anew : (rest : List ℕ) (x y : Phy) → PhyFits x → phyOver (phyOver ws 0 x ++ rest) 0 y ≡ phyOver ws 0 y
+  unfolding phyOver
+  phy-anew rest x y f =
+      let sources : (i w n : ℕ) → lowSet 0x100 (lowSet 0x100 w (monitorAt x i .source)) n ≡ lowSet 0x100 w n =
+      λ i w n. low-anew 0x100 w (monitorAt x i .source) n (omega (arith, f .monitors i .source)) in
+      rw (
+        low-anew 2 (wordAt ws 1) (cond (x .enabled) 1 0) (cond (y .enabled) 1 0) (bit-below (x .enabled)),
+        low-anew 0x10000 _ (x .change0) (y .change0) (omega (arith, f .change0)),
+        low-anew 0x10000 _ (x .expander1) (y .expander1) (omega (arith, f .expander1)),
+        low-anew 0x10000 _ (x .expander2) (y .expander2) (omega (arith, f .expander2)),
+      )
+      (simp sources)
+
   phy-stands : WordsFit ws → PhyFits (phyOf ws 0)
   unfolding phyOf
   phy-stands fit =
@@ -96,7 +116,8 @@ module _ (ws : List ℕ) where
         errors = all-fit (phyOf ws 0 .errors) (fit 2, (fit 3, (fit 4, (fit 5, tt))));
         monitors-size = refl;
         monitors =
-            all-each MonitorFits freshMonitor (monitorsOf ws phyMonitors) (omega arith) (row-stands monitor-block ws fit 4 phyMonitors);
+            all-each MonitorFits freshMonitor (monitorsOf ws phyMonitors) (omega arith)
+            (row-each monitor-block ws MonitorFits (stands-at monitor-block ws monitor-fitting fit) 4 phyMonitors);
         change0 = omega arith;
         expander1 = omega arith;
         expander2 = omega arith;
@@ -112,7 +133,7 @@ module _ (ws : List ℕ) where
       append-fit (headOver ws 0 x ++ monitorsOver ws phyMonitors x) (countsOver ws phyCounts x)
       (append-fit (headOver ws 0 x) (monitorsOver ws phyMonitors x)
       (all-fit (headOver ws 0 x) (f .group, (enabled, (f .errors 0, (f .errors 1, (f .errors 2, (f .errors 3, tt)))))))
-      (row-laid monitor-block ws fit phyMonitors (map (monitorAt x) four) (map-all MonitorFits (monitorAt x) (f .monitors) four)))
+      (row-laid monitor-block ws monitor-fitting fit phyMonitors (map (monitorAt x) four) (map-all MonitorFits (monitorAt x) (f .monitors) four)))
       (all-fit (countsOver ws phyCounts x) (change0, (expander1, (expander2, tt))))
 
 -- a phy's words are stored in three runs
@@ -138,6 +159,57 @@ phy-block =
       sized = λ ws x. refl;
       same = phy-same;
       back = phy-back;
-      stands = phy-stands;
-      laid = phy-laid;
+      anew = phy-anew;
+    }
+
+pub phy-fitting : Fitting phyOf phyOver PhyFits
+phy-fitting = record { stands = phy-stands; laid = phy-laid }
+
+-- ---- An entry of the list of stored peak events
+
+-- of its numbers these stand in low bits
+pub record EntryLow (e : Entry) : Type 0 where
+  pub phy : e .phy ≤ 0xFF
+  pub source : e .monitor .source ≤ 0xFF
+
+pub entry-low : (e : Entry) → EntryFits e → EntryLow e
+entry-low e f = record { phy = f .phy; source = f .monitor .source }
+
+module _ (ws : List ℕ) where
+  entry-back : (rest : List ℕ) (e : Entry) → EntryLow e → entryFrom (entryOver ws 0 e ++ rest) 0 ≡ e
+  entry-back rest e f =
+      rw (
+        low-back 0x100 (wordAt ws 0) (e .phy) (omega (arith, f .phy)),
+        low-back 0x100 (wordAt ws 1) (e .monitor .source) (omega (arith, f .source)),
+      )
+
+  entry-anew : (rest : List ℕ) (e d : Entry) → EntryLow e → entryOver (entryOver ws 0 e ++ rest) 0 d ≡ entryOver ws 0 d
+  entry-anew rest e d f =
+      rw (
+        low-anew 0x100 (wordAt ws 0) (e .phy) (d .phy) (omega (arith, f .phy)),
+        low-anew 0x100 (wordAt ws 1) (e .monitor .source) (d .monitor .source) (omega (arith, f .source)),
+      )
+
+  entry-laid : (e : Entry) → WordsFit ws → EntryFits e → WordsFit (entryOver ws 0 e)
+  entry-laid e fit f =
+      let phy = low-fits 0x100 (wordAt ws 0) (e .phy) refl (fit 0) (omega (arith, f .phy)) in
+      let source = low-fits 0x100 (wordAt ws 1) (e .monitor .source) refl (fit 1) (omega (arith, f .monitor .source)) in
+      all-fit (entryOver ws 0 e) (phy, (source, (f .monitor .value, (f .monitor .threshold, tt))))
+
+pub entry-block : Block entryWords entryFrom entryOver EntryLow
+entry-block =
+    record {
+      of-from = λ ws at. simp (getD-drop, add-assoc, add-zero);
+      over-from = λ ws at e. simp (getD-drop, add-assoc, add-zero);
+      sized = λ ws e. refl;
+      same = λ ws room. simp low-same (places-are 0 ws entryWords 0 room);
+      back = entry-back;
+      anew = entry-anew;
+    }
+
+pub entry-fitting : Fitting entryFrom entryOver EntryFits
+entry-fitting =
+    record {
+      stands = λ ws fit. record { phy = omega arith; monitor = record { source = omega arith; value = fit 2; threshold = fit 3 } };
+      laid = entry-laid;
     }

@@ -6,8 +6,12 @@ use Rattle.words.proofs.read.low16
 use Rattle.words.proofs.read.phy_at
 use Rattle.words.proofs.read.row
 use Rattle.words.proofs.read.identifier
+use Rattle.words.proofs.read.last
+use Rattle.words.proofs.read.count
+use Rattle.words.proofs.read.entry_at
 use Rattle.words.proofs.store.put
 use Rattle.words.proofs.store.put_device
+use Rattle.words.proofs.store.store_entry
 use Rattle.words.proofs.fresh.lay_fresh
 
 pub low16-settled : Settled low16.Kinds.ps low16.Kinds.r low16.Reads.Pre low16.Reads.Post
@@ -22,6 +26,15 @@ row-settled = value-settles _ _ _ (λ κs a x y. refl)
 pub identifier-settled : Settled identifier.Kinds.ps identifier.Kinds.r identifier.Reads.Pre identifier.Reads.Post
 identifier-settled = value-settles _ _ _ (λ κs a x y. refl)
 
+pub last-settled : Settled last.Kinds.ps last.Kinds.r last.Reads.Pre last.Reads.Post
+last-settled = value-settles _ _ _ (λ κs a x y. refl)
+
+pub count-settled : Settled count.Kinds.ps count.Kinds.r count.Reads.Pre count.Reads.Post
+count-settled = value-settles _ _ _ (λ κs a x y. refl)
+
+pub entry-at-settled : Settled entry_at.Kinds.ps entry_at.Kinds.r entry_at.Reads.Pre entry_at.Reads.Post
+entry-at-settled = value-settles _ _ _ (λ κs a x y. refl)
+
 pub put-settled : Settled put.Kinds.ps put.Kinds.r put.Reads.Pre put.Reads.Post
 put-settled = record {
   asks-nothing = λ κs a. tt;
@@ -31,6 +44,13 @@ put-settled = record {
 
 pub put-device-settled : Settled put_device.Kinds.ps put_device.Kinds.r put_device.Reads.Pre put_device.Reads.Post
 put-device-settled = record {
+  asks-nothing = λ κs a. tt;
+  same-result = λ κs a x y. refl;
+  same-lent = λ κs a x y. ap (λ words. (words, (tt, (tt, tt)))) (x .promised ∙ sym (y .promised));
+}
+
+pub store-entry-settled : Settled store_entry.Kinds.ps store_entry.Kinds.r store_entry.Reads.Pre store_entry.Reads.Post
+store-entry-settled = record {
   asks-nothing = λ κs a. tt;
   same-result = λ κs a x y. refl;
   same-lent = λ κs a x y. ap (λ words. (words, (tt, (tt, tt)))) (x .promised ∙ sym (y .promised));

@@ -4,53 +4,59 @@ use Prim.Native.Nat.{ℕ, _+_, _≤_}
 use native.Mathlib.Omega.{arith}
 use mathlib.Core.Path.{_≡_, refl}
 use mathlib.Core.List.{List, _++_}
-use lib.ListN.{take, replicate, length-append}
+use lib.ListN.{take, replicate}
 use Rattle.model.specs.declared.Outcome.{Outcome}
 use Rattle.model.specs.declared.Shelf.{Shelf}
+use Rattle.model.specs.declared.Store.{Store}
 use Rattle.model.specs.declared.Taken.the-variants.{Done}
 use Rattle.model.specs.Bytes.{byte}
-use Rattle.model.specs.Fits.{Fits, StartFits, OperationFits}
+use Rattle.model.specs.Fits.{StoreFits, Fits, StartFits, OperationFits}
 use Rattle.model.specs.Runs.{Operation, next}
 use Rattle.model.specs.Shelf.{startTaken, start}
 use Rattle.model.proofs.Demands.Invariant.{next-fits, start-sound}
 use Rattle.model.proofs.Laws.Places.{replicate-each}
 use Rattle.words.specs.Memory.{WordsFit, Memory}
-use Rattle.words.specs.Sizes.{firstRow, firstPhy, shelfWords}
-use Rattle.words.specs.Words.{wordAt, lowSet, physOver, eight, shelfOf, laidOver, wordsOf, startedWords}
+use Rattle.words.specs.Sizes.{firstRow, firstPhy, storeLast, firstEntry, shelfWords}
+use Rattle.words.specs.Words.{wordAt, lowSet, physOver, entriesOver, storeOver, eight, frontOver, shelfOf, laidOver, wordsOf, startedWords}
 use Rattle.words.proofs.Low.{low-fits}
-use Rattle.words.proofs.Blocks.{append-fit, row-laid-size, row-laid}
-use Rattle.words.proofs.Pieces.{map-all, all-fit, count-fits, phy-block}
-use Rattle.words.proofs.Lens.{all-phys, back, stands-fit}
+use Rattle.words.proofs.Blocks.{append-fit, row-laid}
+use Rattle.words.proofs.Pieces.{map-all, all-fit, count-fits, phy-block, phy-fitting, entry-block, entry-fitting}
+use Rattle.words.proofs.Lens.{all-phys, all-entries, laid-size, back, stands-fit}
 
 -- ---- Words with a shelf laid over them are words of a shelf again
 
-laid-words : (ws : List ℕ) → WordsFit ws → (s : Shelf) → Fits s → WordsFit (laidOver ws s)
-unfolding laidOver physOver
-laid-words ws fit s f =
-    let changes = count-fits ws fit 1 (f .changes) in
-    let expander3 = count-fits ws fit 2 (f .expander3) in
-    let ses0 = count-fits ws fit 3 (f .ses0) in
-    let byte-word : ℕ → ℕ = λ i. lowSet 0x100 (wordAt ws (4 + i)) (byte (s .identifier) i) in
-    let bytes = map-all (λ w. w ≤ 0xFFFFFFFF) byte-word
-    (λ i. low-fits 0x100 (wordAt ws (4 + i)) (byte (s .identifier) i) refl (fit (4 + i)) (omega (arith, f .identifier i))) eight in
-    let device : List ℕ = take firstRow (laidOver ws s) in
-    append-fit (device ++ s .table) (physOver ws (s .phys))
-    (append-fit device (s .table)
-    (all-fit device (f .number, (changes, (expander3, (ses0, bytes)))))
-    (f .table))
-    (row-laid phy-block ws fit firstPhy (s .phys) (all-phys s f))
+module _ (ws : List ℕ) (fit : WordsFit ws) where
+  front-words : (s : Shelf) → Fits s → WordsFit (frontOver ws s)
+  unfolding frontOver
+  front-words s f =
+      let changes = count-fits ws fit 1 (f .changes) in
+      let expander3 = count-fits ws fit 2 (f .expander3) in
+      let ses0 = count-fits ws fit 3 (f .ses0) in
+      let byte-word : ℕ → ℕ = λ i. lowSet 0x100 (wordAt ws (4 + i)) (byte (s .identifier) i) in
+      let bytes = map-all (λ w. w ≤ 0xFFFFFFFF) byte-word
+      (λ i. low-fits 0x100 (wordAt ws (4 + i)) (byte (s .identifier) i) refl (fit (4 + i)) (omega (arith, f .identifier i))) eight in
+      let device : List ℕ = take firstRow (frontOver ws s) in
+      append-fit device (s .table) (all-fit device (f .number, (changes, (expander3, (ses0, bytes))))) (f .table)
+
+  store-words : (k : Store) → StoreFits k → WordsFit (storeOver ws k)
+  unfolding storeOver entriesOver
+  store-words k f =
+      let two : List ℕ = take 2 (storeOver ws k) in
+      append-fit two (entriesOver ws (k .entries)) (all-fit two (count-fits ws fit storeLast (f .last), (f .count, tt)))
+      (row-laid entry-block ws entry-fitting fit firstEntry (k .entries) (all-entries k f))
+
+  laid-words : (s : Shelf) → Fits s → WordsFit (laidOver ws s)
+  unfolding laidOver physOver
+  laid-words s f =
+      append-fit (frontOver ws s ++ physOver ws (s .phys)) (storeOver ws (s .store))
+      (append-fit (frontOver ws s) (physOver ws (s .phys)) (front-words s f)
+      (row-laid phy-block ws phy-fitting fit firstPhy (s .phys) (all-phys s f)))
+      (store-words (s .store) (f .store))
 
 pub laid-memory : (ws : List ℕ) (s : Shelf) → Memory ws → Fits s → Memory (laidOver ws s)
-unfolding laidOver physOver
 laid-memory ws s memory f =
     record {
-      size =
-          rw (
-            length-append (s .table) (physOver ws (s .phys)),
-            f .table-size,
-            row-laid-size phy-block ws firstPhy (s .phys),
-            f .phys-size,
-          );
+      size = laid-size ws s (f .table-size) (f .phys-size) (f .store .entries-size);
       words = laid-words ws (memory .words) s f;
     }
 

@@ -2,16 +2,16 @@
 use Prim.Native.Nat.{ℕ, zero, suc, _+_, _≤_, _<_}
 use native.Mathlib.Nat.{zero-add}
 use native.Mathlib.Omega.{arith}
-use mathlib.Core.Path.{_≡_, refl, ap, _∙_}
+use mathlib.Core.Path.{_≡_, refl, sym, ap, _∙_}
 use mathlib.Core.List.{List, [], _∷_, _++_, map, append-assoc, append-nil}
 use lib.ListN.{length, getD, take, drop, set, replicate, length-append, drop-of-length-le}
 use lib.Seq.{sets, sets-eq, drop-at, length-take-le}
 use Rattle.model.specs.Bytes.{byte}
-use Rattle.model.specs.Shelf.{noPhy, freshPhy, startGroup, freshPhys, freshShelf}
+use Rattle.model.specs.Shelf.{noPhy, freshPhy, startGroup, freshPhys, freshStore, freshShelf}
 use Rattle.model.proofs.Plain.Start.{fresh-phys, fresh-size}
 use Rattle.model.proofs.Laws.Places.{sets-append}
-use Rattle.words.specs.Sizes.{firstRow, firstPhy, shelfWords}
-use Rattle.words.specs.Words.{physOver, eight, laidOver, wordsOf}
+use Rattle.words.specs.Sizes.{firstRow, firstPhy, storeLast, shelfWords}
+use Rattle.words.specs.Words.{physOver, entriesOver, storeOver, eight, frontOver, laidOver, wordsOf}
 use Rattle.words.proofs.Blocks.{row-laid-size}
 use Rattle.words.proofs.Pieces.{phy-block}
 
@@ -47,18 +47,25 @@ pub fresh-at : (n : ℕ) (groups : List ℕ) (p : ℕ) → p < 24 → getD (fres
 unfolding freshShelf
 fresh-at n groups p h = fresh-phys n groups [] [] p h
 
+-- no entry was stored: all its words are 0
+fresh-store : drop storeLast (replicate shelfWords 0) ≡ storeOver (replicate shelfWords 0) freshStore
+unfolding storeOver entriesOver
+fresh-store = refl
+
 -- every word is 0, then the fresh phys are laid, then the words before them
 pub fresh-laid : (n : ℕ) (groups table identifier : List ℕ) {first second third : List ℕ}
     → first ≡ replicate shelfWords 0
     → second ≡ sets first firstPhy (physOver first (freshPhys n groups))
     → third ≡ (n ∷ 0x0001 ∷ 0 ∷ 0 ∷ map (byte identifier) eight) ++ table ++ drop firstPhy second
     → third ≡ wordsOf (freshShelf n groups table identifier)
-unfolding laidOver physOver freshShelf
+unfolding laidOver frontOver physOver freshShelf
 fresh-laid n groups table identifier e₁ e₂ e₃ =
     let zeros : List ℕ = replicate shelfWords 0 in
     let phys : List ℕ = physOver zeros (freshPhys n groups) in
-    let size : firstPhy + length phys ≡ shelfWords =
+    let size : firstPhy + length phys ≡ storeLast =
     rw (row-laid-size phy-block zeros firstPhy (freshPhys n groups), fresh-size n groups) in
-    let behind : drop firstPhy (sets zeros firstPhy phys) ≡ phys =
-    sets-from zeros phys firstPhy (omega arith) ∙ rw size (append-nil phys) in
-    rw (e₃, e₂, e₁, behind) (simp zero-add)
+    let behind : drop firstPhy (sets zeros firstPhy phys) ≡ phys ++ storeOver zeros freshStore =
+    sets-from zeros phys firstPhy (omega arith) ∙ rw size (ap (λ l. phys ++ l) fresh-store) in
+    let front : List ℕ = (n ∷ 0x0001 ∷ 0 ∷ 0 ∷ map (byte identifier) eight) ++ table in
+    let all : front ++ phys ++ storeOver zeros freshStore ≡ wordsOf (freshShelf n groups table identifier) = simp zero-add in
+    rw (e₃, e₂, e₁, behind) (sym (append-assoc front phys (storeOver zeros freshStore)) ∙ all)

@@ -15,12 +15,26 @@ phyCounts = phyMonitors + 4 * monitorWords
 abbrev pub phyWords : ℕ
 phyWords = phyCounts + 3
 
--- the shelf: what is device wide, then 32 rows, then 24 phys
+-- an entry of the list of stored peak events: its phy, then its monitor
+abbrev pub entryWords : ℕ
+entryWords = 1 + monitorWords
+
+-- the shelf: what is device wide, then 32 rows, then 24 phys, then the list of stored peak events (the last index, how many stores there
+-- were, 32 entries)
 abbrev pub firstRow : ℕ
 firstRow = 12
 
 abbrev pub firstPhy : ℕ
 firstPhy = firstRow + 32
 
+abbrev pub storeLast : ℕ
+storeLast = firstPhy + 24 * phyWords
+
+abbrev pub storeCount : ℕ
+storeCount = storeLast + 1
+
+abbrev pub firstEntry : ℕ
+firstEntry = storeLast + 2
+
 abbrev pub shelfWords : ℕ
-shelfWords = firstPhy + 24 * phyWords
+shelfWords = firstEntry + 32 * entryWords

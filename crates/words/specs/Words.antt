@@ -7,16 +7,19 @@ use mathlib.Core.Bool.{cond}
 use mathlib.Core.List.{List, [], _∷_, _++_, map}
 use lib.Dec.{eqb}
 use lib.ListN.{getD, take, drop, replicate}
+use Rattle.model.specs.declared.Entry.{Entry}
 use Rattle.model.specs.declared.Monitor.{Monitor}
 use Rattle.model.specs.declared.Outcome.{Outcome}
 use Rattle.model.specs.declared.Phy.{Phy}
 use Rattle.model.specs.declared.Shelf.{Shelf}
+use Rattle.model.specs.declared.Store.{Store}
 use Rattle.model.specs.declared.Taken.{Taken}
 use Rattle.model.specs.declared.Taken.the-variants.{Done, NotDone}
 use Rattle.model.specs.Bytes.{byte}
 use Rattle.model.specs.Reply.{errorAt, monitorAt}
-use Rattle.model.specs.Shelf.{monitor}
-use Rattle.words.specs.Sizes.{monitorWords, phyMonitors, phyCounts, phyWords, firstRow, firstPhy, shelfWords}
+use Rattle.model.specs.Shelf.{monitor, entryOf}
+use Rattle.words.specs.Sizes.{monitorWords, phyMonitors, phyCounts, phyWords, entryWords}
+use Rattle.words.specs.Sizes.{firstRow, firstPhy, storeLast, storeCount, firstEntry, shelfWords}
 
 abbrev pub wordAt : List ℕ → ℕ → ℕ
 wordAt ws i = getD ws i 0
@@ -91,7 +94,30 @@ physOf ws = rowOf phyWords phyOf 24 ws firstPhy
 unfoldable pub physOver : List ℕ → List Phy → List ℕ
 physOver ws xs = rowOver phyWords phyOver ws firstPhy xs
 
--- ---- The shelf: the words that are device wide, then 32 rows, then 24 phys
+-- ---- The list of stored peak events (#101)
+
+-- an entry, from a place on: its phy, then its monitor
+abbrev pub entryFrom : List ℕ → ℕ → Entry
+entryFrom ws at = entryOf (wordAt ws at % 0x100) (monitorOf ws (at + 1))
+
+abbrev pub entryOver : List ℕ → ℕ → Entry → List ℕ
+entryOver ws at e = lowSet 0x100 (wordAt ws at) (e .phy) ∷ monitorOver ws (at + 1) (e .monitor)
+
+-- the 32 of the list, each at the place where it was stored
+unfoldable pub entriesFrom : List ℕ → List Entry
+entriesFrom ws = rowOf entryWords entryFrom 32 ws firstEntry
+
+unfoldable pub entriesOver : List ℕ → List Entry → List ℕ
+entriesOver ws es = rowOver entryWords entryOver ws firstEntry es
+
+-- the last index, how many stores there were, and the entries
+unfoldable pub storeOf : List ℕ → Store
+storeOf ws = record { last = wordAt ws storeLast % 0x10000; count = wordAt ws storeCount; entries = entriesFrom ws }
+
+unfoldable pub storeOver : List ℕ → Store → List ℕ
+storeOver ws k = lowSet 0x10000 (wordAt ws storeLast) (k .last) ∷ k .count ∷ entriesOver ws (k .entries)
+
+-- ---- The shelf: the words that are device wide, then 32 rows, then 24 phys, then the list of stored peak events
 
 -- the places of the identifier's bytes
 abbrev pub eight : List ℕ
@@ -107,17 +133,21 @@ shelfOf ws =
       changes = wordAt ws 1 % 0x10000;
       expander3 = wordAt ws 2 % 0x10000;
       ses0 = wordAt ws 3 % 0x10000;
+      store = storeOf ws;
     }
 
-unfoldable pub laidOver : List ℕ → Shelf → List ℕ
-laidOver ws s =
+-- the words before the phys
+unfoldable pub frontOver : List ℕ → Shelf → List ℕ
+frontOver ws s =
     (s .number
     ∷ lowSet 0x10000 (wordAt ws 1) (s .changes)
     ∷ lowSet 0x10000 (wordAt ws 2) (s .expander3)
     ∷ lowSet 0x10000 (wordAt ws 3) (s .ses0)
     ∷ map (λ i. lowSet 0x100 (wordAt ws (4 + i)) (byte (s .identifier) i)) eight)
     ++ s .table
-    ++ physOver ws (s .phys)
+
+unfoldable pub laidOver : List ℕ → Shelf → List ℕ
+laidOver ws s = frontOver ws s ++ physOver ws (s .phys) ++ storeOver ws (s .store)
 
 -- the words of a shelf by itself: every bit above a number is 0
 abbrev pub wordsOf : Shelf → List ℕ

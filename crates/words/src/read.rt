@@ -1,20 +1,26 @@
 // Pieces of the shelf, read out of its words.
+use crate::ENTRY_WORDS;
+use crate::FIRST_ENTRY;
 use crate::FIRST_PHY;
 use crate::FIRST_ROW;
 use crate::MONITOR_WORDS;
 use crate::PHY_COUNTS;
 use crate::PHY_MONITORS;
 use crate::PHY_WORDS;
+use crate::STORE_COUNT;
+use crate::STORE_LAST;
 use crate::WORDS;
+use model::Entry;
 use model::Monitor;
 use model::Phy;
 use shelf::phys::fresh_phy;
 ghost use mathlib.Core.Path.{_≡_};
 ghost use Prim.Native.Nat.{_+_, _*_, _%_, _≤_};
-ghost use Rattle.model.specs.Shelf.{phyAt};
+ghost use Rattle.model.specs.Shelf.{phyAt, noEntry};
+ghost use Rattle.model.specs.Store.{entryAt};
 ghost use Rattle.model.specs.Zone.{row};
-ghost use Rattle.words.specs.Sizes.{monitorWords, phyWords, shelfWords};
-ghost use Rattle.words.specs.Words.{monitorOf, monitorsOf, phyOf, shelfOf};
+ghost use Rattle.words.specs.Sizes.{monitorWords, phyWords, entryWords, shelfWords};
+ghost use Rattle.words.specs.Words.{monitorOf, monitorsOf, phyOf, entryFrom, shelfOf};
 
 // a number of 16 bits, in the low bits of its word
 pub fn low16(word: u32) -> u16
@@ -109,4 +115,54 @@ pub fn identifier(words: &[u32; WORDS]) -> [u8; 8]
         low8(words[10]),
         low8(words[11]),
     ]
+}
+
+// The last index of the list of stored peak events, "0000h if none".
+pub fn last(words: &[u32; WORDS]) -> u16
+    ensures { λ r. ⌜ r ≡ shelfOf (now (words .entry)) .store .last ⌝ }
+{
+    low16(words[STORE_LAST])
+}
+
+// How many stores there were, counted on from 32 after 63.
+pub fn count(words: &[u32; WORDS]) -> u32
+    ensures { λ r. ⌜ r ≡ shelfOf (now (words .entry)) .store .count ⌝ }
+{
+    words[STORE_COUNT]
+}
+
+// The entry whose words begin at a place: its phy, then its monitor.
+fn entry(words: &[u32; WORDS], at: usize) -> Entry
+    requires { ⌜ at + entryWords ≤ shelfWords ⌝ }
+    ensures { λ r. ⌜ r ≡ entryFrom (now (words .entry)) at ⌝ }
+{
+    Entry {
+        phy: low8(words[at]),
+        monitor: monitor(words, at + 1),
+    }
+}
+
+// What stands where there is no entry.
+fn no_entry() -> Entry
+    ensures { λ r. ⌜ r ≡ noEntry ⌝ }
+{
+    let fresh = Monitor {
+        source: 0x00,
+        value: 0,
+        threshold: 0,
+    };
+    Entry {
+        phy: 0,
+        monitor: fresh,
+    }
+}
+
+// The entry at place i of the list, in the order in which they are kept; past the 32 there is none.
+pub fn entry_at(words: &[u32; WORDS], i: u32) -> Entry
+    ensures { λ r. ⌜ r ≡ entryAt (shelfOf (now (words .entry)) .store) i ⌝ }
+{
+    if 32 <= i {
+        return no_entry();
+    }
+    entry(words, FIRST_ENTRY + ENTRY_WORDS * (i as usize))
 }

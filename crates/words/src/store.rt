@@ -1,10 +1,16 @@
 // Pieces of the shelf, put back into its words.
+use crate::ENTRY_WORDS;
+use crate::FIRST_ENTRY;
 use crate::FIRST_PHY;
 use crate::MONITOR_WORDS;
 use crate::PHY_COUNTS;
 use crate::PHY_MONITORS;
 use crate::PHY_WORDS;
+use crate::STORE_COUNT;
+use crate::STORE_LAST;
 use crate::WORDS;
+use crate::read::low16;
+use counters::counts::originate;
 use model::Monitor;
 use model::Phy;
 ghost use mathlib.Core.Path.{_≡_};
@@ -12,9 +18,11 @@ ghost use mathlib.Core.Bool.{cond};
 ghost use Prim.Native.Nat.{_+_, _*_, _≤_};
 ghost use lib.ListN.{length};
 ghost use lib.Seq.{sets};
-ghost use Rattle.model.specs.Shelf.{put, putDevice};
-ghost use Rattle.words.specs.Sizes.{monitorWords, phyMonitors, phyWords};
-ghost use Rattle.words.specs.Words.{lowSet, monitorOver, monitorsOver, headOver, countsOver, phyOver, shelfOf, laidOver};
+ghost use Rattle.model.specs.Shelf.{entryOf, put, putDevice, putStore};
+ghost use Rattle.model.specs.Store.{countOn, store};
+ghost use Rattle.words.specs.Sizes.{monitorWords, phyMonitors, phyWords, entryWords};
+ghost use Rattle.words.specs.Words.{lowSet, monitorOver, monitorsOver, headOver, countsOver, phyOver, entryOver};
+ghost use Rattle.words.specs.Words.{shelfOf, laidOver};
 
 // a word with another bit in its lowest place
 fn set_low1(word: u32, b: bool) -> u32
@@ -150,4 +158,42 @@ pub fn put_device(words: &mut [u32; WORDS], expander3: u16, ses0: u16)
     let all: &mut [u32] = words;
     all[2] = set_low16(all[2], expander3);
     all[3] = set_low16(all[3], ses0);
+}
+
+// The words of an entry, over those that begin at a place: its phy, then its monitor.
+fn entry_over(words: &[u32], at: usize, phy: u8, m: Monitor) -> [u32; ENTRY_WORDS]
+    requires { ⌜ at + entryWords ≤ length (now words) ⌝ }
+    ensures { λ r. ⌜ r ≡ entryOver (now (words .entry)) at (entryOf phy m) ⌝ }
+{
+    let monitor = monitor_over(words, at + 1, m);
+    [set_low8(words[at], phy), monitor[0], monitor[1], monitor[2]]
+}
+
+// How many stores there were, after one more: counted on from 32 after 63.
+fn count_on(count: u32) -> u32
+    ensures { λ r. ⌜ r ≡ countOn count ⌝ }
+{
+    if count < 32 {
+        count + 1
+    } else {
+        32 + (count % 32 + 1) % 32
+    }
+}
+
+// "The server keeps the last 32 stored descriptors": one more entry, in place, over the oldest where there are 32. "Indexes
+// run from 0001h and go from FFFFh to 0001h", as a count that is originated.
+pub fn store_entry(words: &mut [u32; WORDS], phy: u8, m: Monitor)
+    ensures { λ _.
+        ⌜ now (words .exit)
+        ≡ laidOver (now (words .entry))
+        (putStore (shelfOf (now (words .entry))) (store (shelfOf (now (words .entry)) .store) (entryOf phy m))) ⌝ }
+{
+    let all: &mut [u32] = words;
+    let count = all[STORE_COUNT];
+    let at = FIRST_ENTRY + ENTRY_WORDS * ((count % 32) as usize);
+    let entry = entry_over(all, at, phy, m);
+    store(all, at, &entry);
+    let word = all[STORE_LAST];
+    all[STORE_LAST] = set_low16(word, originate(low16(word)));
+    all[STORE_COUNT] = count_on(count);
 }

@@ -1,13 +1,19 @@
--- `server::event` meets its contract: where it is done its effect is carried out, and where not the words stay. Assumes nothing.
+-- `server::event` meets its contract: where it is done its effect is carried out, with what it stores, and where not the words stay.
+-- Assumes nothing.
 use borrow.Author.Needs.{needs}
 use native.Mathlib.Omega.{arith}
+use Prim.Native.Nat.{_<_}
 use mathlib.Core.Path.{_≡_, refl, sym, _∙_}
+use lib.ListN.{length}
 use Rattle.model.specs.Counting.{eventOn}
 use Rattle.model.specs.Reports.{eventTaken, event}
 use Rattle.model.specs.Shelf.{exists}
+use Rattle.model.proofs.Plain.Reach.{exists-iff}
+use Rattle.model.proofs.Plain.Reports.{event-done}
+use Rattle.words.specs.Sizes.{shelfWords}
 use Rattle.words.specs.Words.{shelfOf}
 use Rattle.words.proofs.Laying.{laid-same}
-use Rattle.server.proofs.Carrying.{carried}
+use Rattle.server.proofs.Carrying.{carried-stored}
 use Rattle.server.proofs.event.Statement.{statement}
 use Rattle.server.proofs.event.Tie as tie
 
@@ -25,23 +31,45 @@ returns c =
     rw (sym (taken-is told) ∙ c .enum-told2 .given .1)
     (c .enum-told2 .given .1, sym (laid-same (a .words .now) (omega arith)))
 
+-- the words are as many as a shelf has
+long : (c : tie.After-event-taken) → let a = c .before .before .before .before .before .args in length (a .words .now) ≡ shelfWords
+long c = omega arith
+
+-- a report that is done names a phy that exists, so its number fits a byte
+phy-fits : (c : tie.After-enum-told)
+    → let a = c .before .before .before .before .before .before .before .args in
+    a .phy < 24
+phy-fits c =
+    let told = c .before .before in
+    let a = told .before .before .before .before .before .args in
+    let s = shelfOf (a .words .now) in
+    let there = event-done s (a .phy) (a .source) (a .amount) .0 (sym (taken-is told) ∙ c .enum-told .given .1) .phy-exists in
+    exists-iff s (a .phy) .0 there .1
+
+cast-store-marked : tie.Need-cast-store-marked
+cast-store-marked c = let below = phy-fits (c .before .before .before .before .before .before .before .before .before .before .before) in omega arith
+
 returns-2 : tie.Need-returns-2
 unfolding event
 returns-2 c =
-    let moved = c .before .before in
-    let made = moved .before .before .before in
+    let put = c .before .before in
+    let moved = put .before .before in
+    let made = moved .before .before .before .before .before in
     let read = made .before in
     let done = read .before .before in
     let told = done .before .before in
     let a = told .before .before .before .before .before .args in
     rw (sym (taken-is told) ∙ done .enum-told .given .1) (
       refl,
-      carried (a .words .now) (a .phy) (eventOn (a .source) (a .amount)) (read .phy-at .ensures) (made .event-on .ensures)
+      carried-stored (a .words .now) (a .phy) (eventOn (a .source) (a .amount)) (read .phy-at .ensures) (made .event-on .ensures)
           (moved .changes-after .ensures)
-          (c .put .ensures),
+          (put .put .ensures)
+          (long told)
+          (c .store-marked .ensures),
     )
 
 pub event-spec : {M : Type 1} → statement M
 event-spec =
     tie.close
-    (tie.spec (search needs) (search needs) (search needs) (search needs) returns (search needs) (search needs) (search needs) (search needs) returns-2)
+    (tie.spec (search needs) (search needs) (search needs) (search needs) returns (search needs) (search needs) (search needs) (search needs)
+    cast-store-marked (search needs) returns-2)

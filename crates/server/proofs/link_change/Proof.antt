@@ -5,6 +5,9 @@ use native.Mathlib.Omega.{arith}
 use borrow.Author.Tests.{not-true, not-false}
 use mathlib.Core.Path.{refl, sym, _∙_}
 use Rattle.model.specs.Reports.{linkChangeOn, linkChange}
+use Rattle.model.specs.Shelf.{phyAt}
+use Rattle.model.proofs.Plain.Writes.{change-stores}
+use Rattle.words.specs.Words.{shelfOf}
 use Rattle.words.proofs.Laying.{laid-same}
 use Rattle.server.proofs.Carrying.{carried}
 use Rattle.server.proofs.link_change.Statement.{statement}
@@ -28,7 +31,8 @@ returns-2 c =
     rw (sym (there .before .there .ensures) ∙ not-false _ (there .if1 .left)) (
       refl,
       carried (a .words .now) (a .phy) linkChangeOn (read .phy-at .ensures) (made .change-on .ensures) (moved .changes-after .ensures)
-          (c .put .ensures),
+          (c .put .ensures)
+          (change-stores (shelfOf (a .words .now) .store) (a .phy) (phyAt (shelfOf (a .words .now)) (a .phy) .enabled) (phyAt (shelfOf (a .words .now)) (a .phy))),
     )
 
 pub link-change-spec : {M : Type 1} → statement M

@@ -5,10 +5,10 @@ use Prim.Native.Nat.{_≤_}
 use mathlib.Core.Path.{_≡_, refl}
 use lib.ListN.{length}
 use Rattle.model.specs.declared.Request.the-variants.{ConfigurePhyEvent}
-use Rattle.model.specs.Counting.{carriedOut}
 use Rattle.model.specs.Reply.{respond}
 use Rattle.model.specs.Server.{leastBuffer}
 use Rattle.model.specs.Shelf.{phyAt}
+use Rattle.model.specs.Store.{carriedOut}
 use Rattle.model.specs.Writes.{configured}
 use Rattle.words.specs.Sizes.{shelfWords}
 use Rattle.words.specs.Words.{shelfOf}

@@ -1,0 +1,2 @@
+-- What the functions of this crate promise, beside the model's definitions.
+pub mod Listed
