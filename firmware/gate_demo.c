@@ -1,7 +1,7 @@
 /* Shows the two parts that need no device on good, cut and wrong frames, and on rows.
  *
- * gate_demo.expected has what document 01 says of each. firmware/run builds this program, runs it
- * and compares.
+ * gate_demo.expected has what document 01, and document 02's #101 for function 21h, say of each.
+ * firmware/run builds this program, runs it and compares.
  */
 #include "smp_gate.h"
 
@@ -59,6 +59,9 @@ int main(void)
     static const uint8_t response[] = {0x41, 0x14, 0x16, 0x00};
     static const uint8_t manufacturer[] = {0x40, 0x01, 0x00, 0x00};
     static const uint8_t broadcast[] = {0x40, 0x06, 0x04, 0x00};
+    static const uint8_t event_list[12] = {0x40, 0x21, 0, 0x01, 0, 0, 0x00, 0x01};
+    static const uint8_t event_list_00[8] = {0x40, 0x21, 0, 0x00, 0, 0, 0x00, 0x01};
+    static const uint8_t event_list_02[12] = {0x40, 0x21, 0, 0x02, 0, 0, 0x00, 0x01};
     static const uint8_t control[40] = {0x40, 0x91, 0, 0x09};
     static const uint8_t control_00[40] = {0x40, 0x91, 0, 0x00};
 
@@ -69,6 +72,7 @@ int main(void)
     judge("REPORT PHY EVENT, case 2", phy_event, sizeof phy_event);
     judge("REPORT PHY ERROR LOG, case 4", error_log_00, sizeof error_log_00);
     judge("REPORT PHY ERROR LOG of a phy that is judged later, case 5", error_log, sizeof error_log);
+    judge("REPORT PHY EVENT LIST from 0001h, whoever may ask", event_list, 8);
     judge("PHY CONTROL", control, sizeof control);
     judge("PHY CONTROL with length 00h", control_00, sizeof control_00);
     judge_configure("CONFIGURE PHY EVENT of no descriptor", 12, 0x02, 0);
@@ -79,6 +83,7 @@ int main(void)
     judge("nothing", general, 0);
     judge("three bytes, case 6", unknown, 3);
     judge("REPORT PHY EVENT of 11 bytes", phy_event, 11);
+    judge("REPORT PHY EVENT LIST of 7 bytes", event_list, 7);
     judge("PHY CONTROL of 39 bytes", control, 39);
     judge_configure("CONFIGURE PHY EVENT of 11 bytes", 11, 0x02, 0);
     judge_configure("CONFIGURE PHY EVENT of two descriptors, the second cut", 27, 0x06, 2);
@@ -87,6 +92,9 @@ int main(void)
     judge("function 02h, case 6", unknown, sizeof unknown);
     judge("a response fed back", response, sizeof response);
     judge("REPORT PHY EVENT with length 00h, case 3", phy_event_00, sizeof phy_event_00);
+    judge("REPORT PHY EVENT LIST with length 00h", event_list_00, sizeof event_list_00);
+    judge("REPORT PHY EVENT LIST of 12 bytes", event_list, sizeof event_list);
+    judge("REPORT PHY EVENT LIST of 12 bytes, as byte 3 says", event_list_02, sizeof event_list_02);
     judge_configure("CONFIGURE PHY EVENT whose byte 3 says one descriptor more", 28, 0x08, 2);
     judge_configure("CONFIGURE PHY EVENT of 127: 2 + 2d is 256, and 00h is not 256", 1028, 0x00, 127);
 

@@ -26,14 +26,16 @@ extern "C" {
 #define SMP_STATIC_ASSERT _Static_assert
 #endif
 
-/* The shelf in C's memory: 548 words of 32 bits and nothing between them, so that the server may
+/* The shelf in C's memory: 678 words of 32 bits and nothing between them, so that the server may
  * read it as such. The definition of the shelf that the words stand for is shelfOf in
  * crates/words/specs/Words.antt.
  *
  * A number that is narrower than 32 bits stands in the low bits of its word; its width is beside
  * it. The bits above are never read, and no call changes them, except a start, which sets them to
  * 0. So there is no content of these words that the server may not be given. On words that no start
- * made, a phy number above 24 counts as 24, and a phy whose group is above 31 is reached by nobody.
+ * made, a phy number above 24 counts as 24, and a phy whose group is above 31 is reached by nobody;
+ * of the store, `count` % 32 is the place that is written next, and `count` entries are kept, 32 at
+ * most, and none where `last` is 0000h.
  */
 struct smp_monitor {
     uint32_t source;    /* 8 bits: the event source */
@@ -51,6 +53,16 @@ struct smp_phy {
     uint32_t expander2; /* 16 bits: Expander, reason 2h: peaks have been cleared */
 };
 
+/* A stored peak event: a monitor as it stood when it reached its threshold or was cleared. Nothing
+ * that is done to the phy later changes it. */
+struct smp_entry {
+    uint32_t phy; /* 8 bits: the phy that the monitor belongs to */
+    struct smp_monitor monitor;
+};
+
+/* The last 32 peak events stand in `entries` as in a ring: each is written over the oldest. The
+ * newest has the index `last`, the one before it the index before, and FFFFh comes before 0001h.
+ * Only function 21h reads them, and only for zone group 1. */
 struct smp_shelf {
     uint32_t number;    /* 32 bits: the phy number */
     uint32_t changes;   /* 16 bits: the expander change count */
@@ -59,6 +71,9 @@ struct smp_shelf {
     uint32_t identifier[8]; /* 8 bits each: the enclosure identifier, byte by byte */
     uint32_t table[32]; /* 32 bits each: bit h of row g says that g reaches h */
     struct smp_phy phys[24];
+    uint32_t last;  /* 16 bits: the last index stored, 0000h if none; after FFFFh comes 0001h */
+    uint32_t count; /* 32 bits: how many were stored; after 63 comes 32 */
+    struct smp_entry entries[32];
 };
 
 SMP_STATIC_ASSERT(offsetof(struct smp_monitor, value) == 4 * 1, "word 1 of a monitor");
@@ -71,13 +86,18 @@ SMP_STATIC_ASSERT(offsetof(struct smp_phy, change0) == 4 * 18, "word 18 of a phy
 SMP_STATIC_ASSERT(offsetof(struct smp_phy, expander1) == 4 * 19, "word 19 of a phy");
 SMP_STATIC_ASSERT(offsetof(struct smp_phy, expander2) == 4 * 20, "word 20 of a phy");
 SMP_STATIC_ASSERT(sizeof(struct smp_phy) == 4 * 21, "a phy is 21 words");
+SMP_STATIC_ASSERT(offsetof(struct smp_entry, monitor) == 4 * 1, "words 1 to 3 of an entry");
+SMP_STATIC_ASSERT(sizeof(struct smp_entry) == 4 * 4, "an entry is 4 words");
 SMP_STATIC_ASSERT(offsetof(struct smp_shelf, changes) == 4 * 1, "word 1");
 SMP_STATIC_ASSERT(offsetof(struct smp_shelf, expander3) == 4 * 2, "word 2");
 SMP_STATIC_ASSERT(offsetof(struct smp_shelf, ses0) == 4 * 3, "word 3");
 SMP_STATIC_ASSERT(offsetof(struct smp_shelf, identifier) == 4 * 4, "words 4 to 11");
 SMP_STATIC_ASSERT(offsetof(struct smp_shelf, table) == 4 * 12, "words 12 to 43");
 SMP_STATIC_ASSERT(offsetof(struct smp_shelf, phys) == 4 * 44, "words 44 to 547");
-SMP_STATIC_ASSERT(sizeof(struct smp_shelf) == 4 * 548, "a shelf is 548 words");
+SMP_STATIC_ASSERT(offsetof(struct smp_shelf, last) == 4 * 548, "word 548");
+SMP_STATIC_ASSERT(offsetof(struct smp_shelf, count) == 4 * 549, "word 549");
+SMP_STATIC_ASSERT(offsetof(struct smp_shelf, entries) == 4 * 550, "words 550 to 677");
+SMP_STATIC_ASSERT(sizeof(struct smp_shelf) == 4 * 678, "a shelf is 678 words");
 
 /* What every function below asks of C, and nothing else is asked:
  *   - a pointer is not NULL, not even where a length beside it is 0, and is aligned for its type;

@@ -5,8 +5,9 @@
  * the response. A report has one. Bytes are in hex and in groups of four, since SMP counts in dwords.
  * At the end stands whether any word of the shelf is another than before.
  *
- * shelf_day.expected was worked out from what document 01 says, which stands at each step.
- * firmware/run builds this program, runs it and compares.
+ * shelf_day.expected was worked out from what document 01, and document 02's #101 for the list of
+ * stored peak events, say; it stands at each step. firmware/run builds this program, runs it and
+ * compares.
  */
 #include "kinubarsil.h"
 #include "smp_gate.h"
@@ -68,6 +69,12 @@ static void list(struct asker from, const char *what, uint8_t type) { ASK(from, 
 static void read_phy(struct asker from, const char *what, uint8_t function, uint8_t phy)
 {
     ASK(from, what, 0x40, function, 0, 0x02, 0, 0, 0, 0, 0, phy, 0, 0);
+}
+
+/* 21h: 8 bytes, length 01h, the starting index in bytes 6 and 7. */
+static void read_list(struct asker from, const char *what, uint8_t start)
+{
+    ASK(from, what, 0x40, 0x21, 0, 0x01, 0, 0, 0, start);
 }
 
 /* 91h: 40 bytes, length 09h, the change count in bytes 4 and 5, the operation in byte 10. */
@@ -150,12 +157,12 @@ static void monitors(void)
     ASK(B, "phy 2, 2Dh from 100 on", 0x40, 0x93, 0, 4, 0, 1, 0, 0, 0, 2, 0, 1,
         0, 0, 0, 0x2D, 0, 0, 0, 100);
     event(0, 0x2D, 9);   /* 9, below the threshold */
-    event(0, 0x2D, 10);  /* "from below its threshold to it or above originates Expander 1h" */
+    event(0, 0x2D, 10);  /* "from below its threshold to it or above originates Expander 1h": entry 0001h */
     event(0, 0x2D, 12);  /* was not below */
     event(0, 0x2D, 4);   /* "peaks keep the larger" */
     event(0, 0x01, 5);   /* monitor 1, and the first error count */
     event(0, 0x03, 7);   /* no monitor, and the third error count */
-    event(2, 0x2D, 100); /* B's peak crosses too */
+    event(2, 0x2D, 100); /* B's peak crosses too: entry 0002h */
     event(1, 0x2B, 256); /* H9: "amount above FFh for 2Bh" */
     event(1, 0x07, 1);   /* H8: unsupported */
     event(4, 0x00, 1);   /* H7: four phys, numbered from 0; H8 would apply too */
@@ -187,12 +194,13 @@ static void cable(void)
     clear(A, "clears phy 0, with 0001h", 1, 0); /* 04h: "neither 0000h nor the present count" */
     clear(A, "clears phy 2, with 0001h", 1, 2); /* 04h comes before 20h */
     list(A, "what has changed", 0x00); /* the present count in bytes 4 and 5; Change is type 0h */
-    /* "each of the phy's monitors on a peak source goes to 0", and "Expander 2h is originated once" */
+    /* "each of the phy's monitors on a peak source goes to 0", and "Expander 2h is originated once":
+     * monitor 0 is stored with the 12 that it had, entry 0003h; 01h is no peak. */
     clear(A, "clears phy 0, with 0002h", 2, 0);
     list(A, "what has happened", 0x04);  /* "phys rising, then reason rising" */
     read_phy(A, "reads phy 0", 0x14, 0); /* the peak is 0; 01h counts and keeps its 5 */
     read_phy(B, "reads phy 2", 0x14, 2); /* nobody has wiped his peak */
-    clear(B, "clears phy 2, having read it", 2, 2);
+    clear(B, "clears phy 2, having read it", 2, 2); /* entry 0004h */
 }
 
 static void controls(void)
@@ -224,6 +232,23 @@ static void notices(void)
     list(desk, "type 10h", 0x10); /* 02h: "a broadcast type above 0Fh" */
 }
 
+static void stored(void)
+{
+    puts("The desk reads the stored peak events.");
+    /* 60 bytes: 4 and 5 the change count, 6 and 7 the first index returned, 8 and 9 the last index
+     * stored, 10 the number 3, 11 the number of descriptors; then phy, source, value and threshold of
+     * each, oldest first. The list outlives A's clear and B's. */
+    read_list(desk, "the list, from 0001h", 1);
+    read_list(desk, "the list, from 0003h", 3);
+    read_list(desk, "the list, from 0005h", 5); /* not stored, none above it: "from the lowest stored index" */
+    read_list(desk, "the list, from 0000h", 0); /* "returns index 0000h and none" */
+    /* "The index tells about phys out of reach, so only source group 1 may ask" */
+    read_list(A, "the list, from 0001h", 1);
+    read_list(B, "the list, from 0001h", 1);
+    /* 21h "comes directly after 03h", and 00h is no length of it. */
+    ASK(A, "the list, length 00h", 0x40, 0x21, 0, 0x00, 0, 0, 0, 1);
+}
+
 static void bad_frames(void)
 {
     const uint8_t cut[3] = {0x40, 0x14, 0x00};
@@ -248,6 +273,7 @@ static void night(void)
     ASK(desk, "looks at the shelf", 0x40, 0, 0, 0);
     start("start, shelf W", 4, 1, 0x00000102); /* "the change count is 0001h, every other number is 0" */
     list(desk, "what has happened", 0x04);
+    read_list(desk, "the list, from 0001h", 1); /* "8 and 9 the last index stored (0000h if none)" */
 }
 
 int main(void)
@@ -258,6 +284,7 @@ int main(void)
     cable();
     controls();
     notices();
+    stored();
     bad_frames();
     night();
 }

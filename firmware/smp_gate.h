@@ -20,7 +20,8 @@
 extern "C" {
 #endif
 
-/* Judges one request frame, without CRC: the function, and H6, 01h, 03h or nothing wrong.
+/* Judges one request frame, without CRC: the function, and H6, 01h, 03h or nothing wrong. The known
+ * functions are 00h, 01h, 06h, 11h, 14h, 21h, 91h and 93h; every other one draws 01h.
  *
  * frame   the bytes as they came from the link layer. What C owes: it is not NULL, not even where
  *         size is 0; `size` bytes from it on are readable and have been set; and nobody changes
@@ -46,7 +47,7 @@ static inline uint8_t smp_told_house(uint32_t told) { return (uint8_t)(told >> 1
 static inline bool smp_told_has_function(uint32_t told) { return told >> 24 == 1; }
 
 /* Nothing wrong: none of H6, 01h and 03h. The server may still refuse the request or fail it, for
- * what it sees in the shelf. */
+ * where it comes from and for what it sees in the shelf. */
 static inline bool smp_told_nothing_wrong(uint32_t told) { return (told & 0x00FFFF00) == 0; }
 
 /* Whether a row of the permission table reaches a zone group: the row's bit of that group, and no

@@ -104,8 +104,8 @@ fn stack(side: &str, stream: &str, phys: u32) -> Option<usize> {
     }))
 }
 
-/// Runs all streams on both sides, twice over, and compares; and looks that each draws the answers
-/// that its name promises.
+/// Runs all streams on both sides, twice over, and compares; and looks that each draws the answers,
+/// and stores as many peak events, as its name promises.
 fn check() -> Result<usize, String> {
     let mut calls = 0;
     for (name, phys) in streams::NAMES.iter().flat_map(|name| [1, 8, 24].map(|n| (*name, n))) {
@@ -113,6 +113,7 @@ fn check() -> Result<usize, String> {
         let sides = ["host", "twin"].map(|name| Side::named(name).expect("a side"));
         let mut outs = [[0; ROOM]; 2];
         let shelves = [0, 1].map(|i| prepared(&sides[i], phys, &mut outs[i]));
+        let last = [0, 1].map(|i| last_stored(&sides[i], shelves[i]));
         for next in stream.iter().cycle().take(2 * stream.len()) {
             // SAFETY: each side's own memory.
             let told = [0, 1].map(|i| unsafe { call(&sides[i], shelves[i], next, &mut outs[i]) });
@@ -124,8 +125,20 @@ fn check() -> Result<usize, String> {
             }
             calls += 1;
         }
+        let more = [0, 1].map(|i| last_stored(&sides[i], shelves[i]).wrapping_sub(last[i]));
+        if more[0] != more[1] || streams::stores(name).is_some_and(|each| more[0] != 2 * each) {
+            return Err(format!("stream {name}, {phys} phys: stores {} and {}", more[0], more[1]));
+        }
     }
     Ok(calls)
+}
+
+/// The last index stored, from a 21h that lists nothing.
+fn last_stored(side: &Side, shelf: Memory) -> u16 {
+    let mut out = [0; ROOM];
+    // SAFETY: the side's own memory.
+    unsafe { call(side, shelf, &streams::request(1, streams::list(0)), &mut out) };
+    u16::from_be_bytes([out[8], out[9]])
 }
 
 fn as_meant(name: &str, call: &Call, told: u32, out: &[u8]) -> bool {
@@ -135,6 +148,8 @@ fn as_meant(name: &str, call: &Call, told: u32, out: &[u8]) -> bool {
     let result = name.strip_prefix("result").unwrap_or("00");
     match call {
         _ if name == "mixed" => true,
+        _ if name == "21" => told == 12 + 32 * 12,
+        _ if name == "21newest" => told == 12 + 12,
         Call::Serve { .. } => told >> 31 == 0 && Ok(out[2]) == u8::from_str_radix(result, 16),
         _ => told >> 31 == 0,
     }

@@ -4,6 +4,7 @@
 //! The shelf: phys in groups 8 and 9 by turns; row 8 has bits 1 and 8, row 9 bits 1 and 9, the
 //! other rows from 2 up bit 1 alone. Source 1 reaches all phys, 8 and 9 half of them each. All phys
 //! have a Change, an Expander 1h and an Expander 2h count; monitors watch 01h, 2Dh, 20h and 2Eh.
+//! The store of peak events is full.
 
 pub enum Call {
     Start { phys: u32 },
@@ -16,10 +17,11 @@ pub enum Call {
 
 /// Every stream.
 #[rustfmt::skip]
-pub const NAMES: [&str; 25] = [
-    "start", "00", "01", "06", "11", "14", "91", "93", "event", "link_change", "notice", "reach", "mixed",
-    "h4", "h5", "h6", "result01", "result03", "result04", "result10", "result16", "result20",
-    "result13", "result02", "result17",
+pub const NAMES: [&str; 31] = [
+    "start", "00", "01", "06", "11", "14", "21", "21newest", "91", "93", "93set", "event",
+    "crossing", "below", "link_change", "notice", "reach", "mixed",
+    "h4", "h5", "h6", "result01", "result03", "result21", "result04", "result10", "result16",
+    "result20", "result13", "result02", "result17",
 ];
 
 pub const fn groups() -> [u32; 24] {
@@ -60,6 +62,11 @@ pub fn control(phy: u32, operation: u8) -> Vec<u8> {
     frame
 }
 
+/// A 21h request with this start.
+pub fn list(start: u32) -> Vec<u8> {
+    vec![0x40, 0x21, 0, 1, 0, 0, (start >> 8) as u8, start as u8]
+}
+
 pub fn configure(phy: u32, clear: u8, descriptors: &[(u8, u32)]) -> Vec<u8> {
     let d = descriptors.len() as u8;
     let mut frame = vec![0x40, 0x93, 0, 2 + 2 * d, 0, 0, clear, 0, 0, phy as u8, 0, d];
@@ -68,6 +75,12 @@ pub fn configure(phy: u32, clear: u8, descriptors: &[(u8, u32)]) -> Vec<u8> {
         frame.extend(threshold.to_be_bytes());
     }
     frame
+}
+
+/// The last index stored after the preparation: each phy stores three, and the clears of phy 0 that
+/// fill the store two each.
+fn last_stored(phys: u32) -> u32 {
+    3 * phys + 2 * 16
 }
 
 /// What is done to a fresh shelf before the stream.
@@ -80,6 +93,7 @@ pub fn preparation(phys: u32) -> Vec<Call> {
         calls.push(request(1, configure(phy, 1, &[])));
         calls.push(Call::LinkChange { phy });
     }
+    calls.extend((0..16).map(|_| request(1, configure(0, 1, &[]))));
     calls
 }
 
@@ -101,15 +115,54 @@ fn call(name: &str, i: u32, phys: u32) -> Option<Call> {
         "06" => request([1, 1, 8][i as usize % 3], short(0x06, [0, 3, 4][i as usize / 3 % 3])),
         "11" => request(1, about(0x11, phy)),
         "14" => request(1, about(0x14, phy)),
+        // The whole store, 32 descriptors: the starts stand below the oldest index and above the
+        // newest by turns, so the rule for a start that is not stored is used.
+        "21" => request(1, list([1, 0xFFFF][i as usize % 2])),
+        // The newest alone, one descriptor.
+        "21newest" => request(1, list(last_stored(phys))),
         "91" => request(1, control(phy, [5, 1, 3][turn % 3])),
+        // With a clear: each stores two peak monitors.
         "93" => request(1, configure(phy, 1, &[(0x01, 5), ([0x2D, 0x2E][turn % 2], 10)])),
+        // The same without a clear: stores nothing.
+        "93set" => request(1, configure(phy, 0, &[(0x01, 5), ([0x2D, 0x2E][turn % 2], 10)])),
+        // 2Dh crosses once on each phy, in the first 240 calls; from then on nothing is stored.
         "event" => Call::Event { phy, source: [0x01, 0x2D, 0x20, 0x45][turn % 4], amount: i },
+        "crossing" => pair(i, phys, 20),
+        "below" => pair(i, phys, 9),
         "start" => Call::Start { phys },
         "link_change" => Call::LinkChange { phy },
         "notice" => Call::Notice { ses: i % 2 == 1 },
         "reach" => Call::Reach { source: [1, 8, 9, 0][i as usize % 4] },
         _ => return refused(name, i).or_else(|| failed(name, phy, phys)),
     })
+}
+
+/// Pairs of a 93h that puts monitor 0 on another peak source, with threshold 10, so that its value
+/// is 0 again, and a report on that source. With 20 the report reaches the threshold: it originates
+/// Expander 1h and stores one entry. With 9 it does neither, and all else is the same: so twice the
+/// difference of the two streams is what one crossing costs with its store.
+///
+/// Four phys at most, so that each has an even number of turns and finds the other source in place
+/// when the stream begins anew.
+fn pair(i: u32, phys: u32, amount: u32) -> Call {
+    let (pair, phys) = (i / 2, phys.min(4));
+    let phy = pair % phys;
+    let source = [0x2B, 0x2C][(pair / phys) as usize % 2];
+    if i % 2 == 0 {
+        request(1, configure(phy, 0, &[(source, 10)]))
+    } else {
+        Call::Event { phy, source: u32::from(source), amount }
+    }
+}
+
+/// How many entries one turn of a stream stores, where its name promises it.
+pub fn stores(name: &str) -> Option<u16> {
+    match name {
+        "crossing" => Some(120),
+        "93" => Some(480),
+        "93set" | "below" | "21" | "21newest" | "result21" => Some(0),
+        _ => None,
+    }
 }
 
 /// House refusals of a request.
@@ -130,6 +183,7 @@ fn failed(name: &str, phy: u32, phys: u32) -> Option<Call> {
     Some(match name {
         "result01" => request(1, short(0x02, 0)),
         "result03" => request(1, about(0x00, phy)),
+        "result21" => request(8, list(1)),
         "result04" => request(1, wrong_count),
         "result10" => request(1, about(0x11, phys)),
         "result16" => request(0, about(0x14, phy)),

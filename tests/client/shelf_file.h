@@ -1,4 +1,4 @@
-/* The shelf between two runs of a tool: a file that holds the 548 words of struct smp_shelf as they
+/* The shelf between two runs of a tool: a file that holds the 678 words of struct smp_shelf as they
  * stand in memory.
  *
  * The server wants that nobody else touches the shelf during a call, and two tools may run at the

@@ -12,7 +12,8 @@
 #include <string.h>
 
 enum { FRAME_ROOM = 2048, REFUSED_H6 = 0x6 };
-enum { GENERAL = 0x00, BROADCAST = 0x06, ERROR_LOG = 0x11, PHY_EVENT = 0x14, CONTROL = 0x91, CONFIGURE = 0x93 };
+enum { GENERAL = 0x00, BROADCAST = 0x06, ERROR_LOG = 0x11, PHY_EVENT = 0x14, EVENT_LIST = 0x21 };
+enum { CONTROL = 0x91, CONFIGURE = 0x93 };
 
 uint32_t __real_smp_serve(struct smp_shelf *shelf, uint32_t source, const uint8_t *frame, size_t size,
                           uint8_t *out, size_t room);
@@ -81,6 +82,7 @@ static uint32_t stores_nothing(struct asked *a)
 /* The zone rule. */
 static uint32_t reads_for_strangers(struct asked *a) { return as_the_desk(a, asks(a, ERROR_LOG)); }
 static uint32_t monitors_for_strangers(struct asked *a) { return as_the_desk(a, asks(a, PHY_EVENT)); }
+static uint32_t lists_for_strangers(struct asked *a) { return as_the_desk(a, asks(a, EVENT_LIST)); }
 static uint32_t broadcasts_for_strangers(struct asked *a) { return as_the_desk(a, asks(a, BROADCAST)); }
 static uint32_t clears_for_strangers(struct asked *a) { return as_the_desk(a, asks(a, CONFIGURE)); }
 static uint32_t resets_for_strangers(struct asked *a) { return as_the_desk(a, asks(a, CONTROL)); }
@@ -270,11 +272,79 @@ static uint32_t swaps_error_counts(struct asked *a)
     return told;
 }
 
-/* Reports: the true one, and then what the fault makes of the phy. */
+/* The list of stored peak events. */
+static uint32_t rights_before_length(struct asked *a)
+{
+    return asks(a, EVENT_LIST) && a->source != 1 && a->source < 32 ? failed(a, 0x21) : truth(a);
+}
+
+static uint32_t lists_from_the_first(struct asked *a)
+{
+    if (asks(a, EVENT_LIST))
+        memcpy(a->frame + 6, (uint8_t[2]){0, 1}, 2);
+    return truth(a);
+}
+
+/* A list of nothing where what comes first is not what was asked for. */
+static uint32_t lists_stored_starts_only(struct asked *a)
+{
+    uint32_t told = truth(a);
+    if (!asks(a, EVENT_LIST) || !accepted(a, told) || memcmp(a->out + 6, a->frame + 6, 2) == 0)
+        return told;
+    a->out[3] = 2;
+    a->out[6] = a->out[7] = a->out[11] = 0;
+    return 12;
+}
+
+/* As the published SAS-2 has it, and as the tool reads it: the number in byte 15, descriptors from 16. */
+static uint32_t lists_as_published(struct asked *a)
+{
+    uint32_t told = truth(a);
+    if (!asks(a, EVENT_LIST) || !accepted(a, told))
+        return told;
+    memmove(a->out + 16, a->out + 12, told - 12);
+    memcpy(a->out + 12, (uint8_t[4]){0, 0, 0, a->out[11]}, 4);
+    a->out[3] = (uint8_t)(a->out[3] + 1);
+    a->out[11] = 0;
+    return told + 4;
+}
+
+/* The entry that was stored `back` entries before the newest. */
+static struct smp_entry *entry(struct smp_shelf *shelf, uint32_t back)
+{
+    return &shelf->entries[(shelf->count - 1 - back) % 32];
+}
+
+/* Takes the last index and the count back to what they were before. */
+static void unstore(struct smp_shelf *shelf, const struct smp_shelf *before)
+{
+    shelf->last = before->last;
+    shelf->count = before->count;
+}
+
+static uint32_t clears_unstored(struct asked *a)
+{
+    struct smp_shelf before = *a->shelf;
+    uint32_t told = truth(a);
+    unstore(a->shelf, &before);
+    return told;
+}
+
+static uint32_t stores_after_the_clear(struct asked *a)
+{
+    uint32_t before = a->shelf->count, told = truth(a);
+    for (uint32_t stored = a->shelf->count - before; stored > 0; stored--)
+        entry(a->shelf, stored - 1)->monitor.value = 0;
+    return told;
+}
+
+/* Reports: the true one, and then what the fault makes of the phy and of the store. */
 struct reported {
     struct smp_phy before;
     struct smp_phy *phy;
     uint32_t source, amount;
+    struct smp_shelf *shelf;
+    const struct smp_shelf *shelf_before;
 };
 
 static void errors_wrap(struct reported *r)
@@ -325,6 +395,44 @@ static void tells_above(struct reported *r)
                                                    r->amount > first->threshold);
 }
 
+static void crossings_unstored(struct reported *r) { unstore(r->shelf, r->shelf_before); }
+
+static void stores_the_old_value(struct reported *r)
+{
+    if (r->shelf->count != r->shelf_before->count)
+        entry(r->shelf, 0)->monitor.value = r->before.monitors[0].value;
+}
+
+/* Two that a report stored, in each other's place. */
+static void stores_falling(struct reported *r)
+{
+    if (r->shelf->count == r->shelf_before->count + 2) {
+        struct smp_entry newest = *entry(r->shelf, 0);
+        *entry(r->shelf, 0) = *entry(r->shelf, 1);
+        *entry(r->shelf, 1) = newest;
+    }
+}
+
+/* Two that a report stored count as one. */
+static void stores_one_of_several(struct reported *r)
+{
+    if (r->shelf->count == r->shelf_before->count + 2) {
+        r->shelf->count--;
+        r->shelf->last--;
+    }
+}
+
+/* Every report on a peak that is watched. */
+static void stores_uncrossed(struct reported *r)
+{
+    const struct smp_monitor *first = &r->phy->monitors[0];
+    if (is_peak(r->source) && first->source == r->source && r->shelf->count == r->shelf_before->count) {
+        r->shelf->count++;
+        r->shelf->last++;
+        *entry(r->shelf, 0) = (struct smp_entry){.phy = 0, .monitor = *first};
+    }
+}
+
 static const struct {
     const char *name;
     uint32_t (*serve)(struct asked *);
@@ -336,6 +444,7 @@ static const struct {
     {"stores_nothing", stores_nothing},
     {"reads_for_strangers", reads_for_strangers},
     {"monitors_for_strangers", monitors_for_strangers},
+    {"lists_for_strangers", lists_for_strangers},
     {"broadcasts_for_strangers", broadcasts_for_strangers},
     {"clears_for_strangers", clears_for_strangers},
     {"resets_for_strangers", resets_for_strangers},
@@ -372,6 +481,12 @@ static const struct {
     {"descriptor_length", descriptor_length},
     {"sends_a_crc", sends_a_crc},
     {"swaps_error_counts", swaps_error_counts},
+    {"rights_before_length", rights_before_length},
+    {"lists_from_the_first", lists_from_the_first},
+    {"lists_stored_starts_only", lists_stored_starts_only},
+    {"lists_as_published", lists_as_published},
+    {"clears_unstored", clears_unstored},
+    {"stores_after_the_clear", stores_after_the_clear},
 };
 
 static const struct {
@@ -386,6 +501,11 @@ static const struct {
     {"logs_watched_only", logs_watched_only},
     {"tells_each_time", tells_each_time},
     {"tells_above", tells_above},
+    {"crossings_unstored", crossings_unstored},
+    {"stores_the_old_value", stores_the_old_value},
+    {"stores_falling", stores_falling},
+    {"stores_one_of_several", stores_one_of_several},
+    {"stores_uncrossed", stores_uncrossed},
 };
 
 static const char *fault_name(void)
@@ -434,7 +554,9 @@ uint32_t __wrap_smp_serve(struct smp_shelf *shelf, uint32_t source, const uint8_
 uint32_t __wrap_smp_event(struct smp_shelf *shelf, uint32_t phy, uint32_t source, uint32_t amount)
 {
     size_t place = fault(), number = sizeof servers / sizeof *servers;
-    struct reported reported = {.phy = &shelf->phys[phy % 24], .source = source, .amount = amount};
+    const struct smp_shelf before = *shelf;
+    struct reported reported = {.phy = &shelf->phys[phy % 24], .source = source, .amount = amount,
+                                .shelf = shelf, .shelf_before = &before};
     reported.before = *reported.phy;
     uint32_t told = __real_smp_event(shelf, phy, source, amount);
     if (place >= number && !smp_refused(told))

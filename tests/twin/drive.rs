@@ -1,5 +1,5 @@
 //! Runs the server, over its C interface, and the twin side by side with random operations from a
-//! fixed seed, and compares everything after each: the answer, the whole lent buffer, and all 548
+//! fixed seed, and compares everything after each: the answer, the whole lent buffer, and all 678
 //! words of the shelf. On a difference it prints the shortest failing sequence that it can find.
 //!
 //! `drive [--ops N] [--seed S]`

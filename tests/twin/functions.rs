@@ -1,4 +1,4 @@
-//! The seven SMP functions, each in the order of document 01: "In this order, first failure
+//! The eight SMP functions, each in the order of document 01: "In this order, first failure
 //! decides". Each gives the length of its accepted response, or the failed result.
 
 use super::*;
@@ -121,6 +121,53 @@ impl Shelf {
         Ok(64)
     }
 
+    /// "The request has 8 bytes, length 01h, starting index in 6 and 7." Then "result 21h NO
+    /// MANAGEMENT ACCESS RIGHTS for other sources comes directly after 03h": "only source group 1
+    /// may ask".
+    pub(super) fn report_phy_event_list(
+        &self,
+        source: u32,
+        frame: &[u8],
+        out: &mut Buffer,
+    ) -> Result<usize, u8> {
+        let by_reach = cfg!(fault = "list_by_reach") && self.reach(source) == self.reach(1);
+        let may_ask = source == 1 || by_reach || cfg!(fault = "list_for_all");
+        if cfg!(fault = "rights_before_length") && !may_ask {
+            return Err(NO_MANAGEMENT_ACCESS_RIGHTS);
+        }
+        let &[_, _, _, _, _, _, high, low] = whole(frame, &[0x01])?;
+        if !may_ask {
+            return Err(NO_MANAGEMENT_ACCESS_RIGHTS);
+        }
+        let (first, entries) = self.store.list(u16::from_be_bytes([high, low]));
+        Ok(self.send_list(first, entries, out))
+    }
+
+    /// "The response has 4 and 5 the change count, 6 and 7 the first index returned, 8 and 9 the
+    /// last index stored (0000h if none), 10 the number 3, 11 the number of descriptors, then from
+    /// 12 descriptors of 12 bytes as in 14h with the phy at byte 2". The length is 2 + 3n.
+    fn send_list<'a>(
+        &self,
+        first: u16,
+        entries: impl Iterator<Item = &'a Entry>,
+        out: &mut Buffer,
+    ) -> usize {
+        let mut n = 0;
+        for (descriptor, entry) in out[12..].as_chunks_mut::<12>().0.iter_mut().zip(entries) {
+            let Monitor { source, value, threshold } = entry.monitor;
+            let [a, b, c, d] = value.to_be_bytes();
+            let [e, f, g, h] = threshold.to_be_bytes();
+            *descriptor = [0, 0, entry.phy, source, a, b, c, d, e, f, g, h];
+            n += 1;
+        }
+        out[..4].copy_from_slice(&[0x41, REPORT_PHY_EVENT_LIST, 0x00, 2 + 3 * n]);
+        out[4..6].copy_from_slice(&self.changes.to_be_bytes());
+        out[6..8].copy_from_slice(&first.to_be_bytes());
+        out[8..10].copy_from_slice(&self.store.last.to_be_bytes());
+        out[10..12].copy_from_slice(&[3, n]);
+        12 + 12 * usize::from(n)
+    }
+
     /// "**91h**: request 40 bytes, length 09h or 00h, operation in byte 10 .. Response 4 bytes."
     pub(super) fn phy_control(
         &mut self,
@@ -169,7 +216,8 @@ impl Shelf {
         if cfg!(fault = "sources_before_reach") && descriptors.iter().any(unknown) {
             return Err(UNKNOWN_PHY_EVENT_SOURCE);
         }
-        let phy = self.addressed(row, head[9], SMP_ZONE_VIOLATION)?;
+        let p = head[9];
+        let phy = self.addressed(row, p, SMP_ZONE_VIOLATION)?;
         let phy = &mut self.phys[phy];
         // "02h SMP FUNCTION FAILED for .. more than four descriptors (93h)"
         if descriptors.len() > phy.monitors.len() {
@@ -187,13 +235,16 @@ impl Shelf {
         }
         let clear = head[6] & 1 == 1;
         if clear && cfg!(fault = "clear_before_set") {
-            phy.clear_peaks();
+            phy.clear_peaks(p, &mut self.store);
+        }
+        if clear && cfg!(fault = "stored_before_set") {
+            phy.keep_peaks(p, &mut self.store);
         }
         for (monitor, descriptor) in phy.monitors.iter_mut().zip(descriptors) {
             monitor.configure(descriptor);
         }
         if clear && !cfg!(fault = "clear_before_set") {
-            phy.clear_peaks();
+            phy.clear_peaks(p, &mut self.store);
         }
         accepted::<4>(out, CONFIGURE_PHY_EVENT);
         Ok(4)

@@ -3,7 +3,7 @@
 
 use crate::random::Random;
 use crate::states::{self, Start};
-use crate::twin::{self, Shelf};
+use crate::twin::{self, Monitor, Shelf};
 
 /// What the lent buffer holds before a request.
 #[derive(Clone, Copy, PartialEq)]
@@ -26,7 +26,7 @@ pub enum Operation {
 
 const HUGE: [u32; 6] = [255, 256, 264, 0x100_0001, 0x8000_0000, u32::MAX];
 const UNSUPPORTED: [u8; 10] = [0x07, 0x08, 0x1F, 0x2F, 0x30, 0x3F, 0x46, 0x80, 0xAD, 0xFF];
-const FUNCTIONS: [u8; 7] = [0x00, 0x01, 0x06, 0x11, 0x14, 0x91, 0x93];
+const FUNCTIONS: [u8; 8] = [0x00, 0x01, 0x06, 0x11, 0x14, 0x21, 0x91, 0x93];
 
 pub fn operation(random: &mut Random, shelf: &Shelf) -> Operation {
     match random.below(200) {
@@ -76,14 +76,27 @@ fn event(random: &mut Random, shelf: &Shelf) -> Operation {
         18 => 0x100 * random.below(3) + u32::from(states::event_source(random)),
         _ => random.number(),
     };
-    let amount = match random.below(6) {
-        0 => monitor.threshold.wrapping_add(random.below(3)).wrapping_sub(1),
-        1 => monitor.value.wrapping_add(random.below(3)).wrapping_sub(1),
-        2 => 0u32.wrapping_sub(monitor.value).wrapping_add(random.below(3)).wrapping_sub(1),
-        3 => random.below(0x100),
+    let amount = match random.below(8) {
+        // To all thresholds of the monitors on the source.
+        0 | 1 => to_all_thresholds(monitors, source),
+        2 => monitor.threshold.wrapping_add(random.below(3)).wrapping_sub(1),
+        3 => monitor.value.wrapping_add(random.below(3)).wrapping_sub(1),
+        4 => 0u32.wrapping_sub(monitor.value).wrapping_add(random.below(3)).wrapping_sub(1),
+        5 => random.below(0x100),
         _ => random.number(),
     };
     Operation::Event { phy, source, amount }
+}
+
+/// The highest threshold of the monitors on a source, as far as a report of that source goes.
+fn to_all_thresholds(monitors: &[Monitor; 4], source: u32) -> u32 {
+    let watching = monitors.iter().filter(|monitor| u32::from(monitor.source) == source);
+    let highest = watching.map(|monitor| monitor.threshold).max().unwrap_or(0);
+    match source {
+        0x2B => highest.min(0xFF),
+        0x2C => highest.min(0xFFFF),
+        _ => highest,
+    }
 }
 
 fn serve(random: &mut Random, shelf: &Shelf) -> Operation {
@@ -106,9 +119,15 @@ fn serve(random: &mut Random, shelf: &Shelf) -> Operation {
     }
 }
 
-/// A frame of one of the seven functions, well formed, the bytes not named at random or 0.
+/// Each function once, those that do more oftener.
+#[rustfmt::skip]
+const ASKED: [u8; 14] = [
+    0x00, 0x01, 0x06, 0x06, 0x11, 0x14, 0x21, 0x21, 0x91, 0x91, 0x93, 0x93, 0x93, 0x93,
+];
+
+/// A frame of one of the eight functions, well formed, the bytes not named at random or 0.
 fn frame(random: &mut Random, shelf: &Shelf) -> Vec<u8> {
-    let function = random.pick(&[0x00, 0x01, 0x06, 0x06, 0x11, 0x14, 0x91, 0x91, 0x93, 0x93, 0x93]);
+    let function = random.pick(&ASKED);
     let d = match random.below(60) {
         0 => random.below(131),
         1 => random.pick(&[4, 5, 125, 126, 127, 128]),
@@ -119,6 +138,7 @@ fn frame(random: &mut Random, shelf: &Shelf) -> Vec<u8> {
         0x00 | 0x01 | 0x06 => (4, 0),
         0x11 => (12, random.pick(&[0, 2])),
         0x14 => (12, 2),
+        0x21 => list_size(random),
         0x91 => (40, random.pick(&[0, 9])),
         _ => (12 + 8 * d, 2 + 2 * d),
     };
@@ -139,11 +159,35 @@ fn frame(random: &mut Random, shelf: &Shelf) -> Vec<u8> {
         frame[9] = phy(random, shelf) as u8;
     }
     match function {
+        0x21 if size >= 8 => frame[6..8].copy_from_slice(&list_start(random, shelf).to_be_bytes()),
         0x91 => control(random, shelf, &mut frame),
         0x93 => configure(random, shelf, &mut frame, d),
         _ => {}
     }
     frame
+}
+
+/// "The request has 8 bytes, length 01h"; now and then a length that another function has.
+fn list_size(random: &mut Random) -> (usize, usize) {
+    match random.below(20) {
+        0 => random.pick(&[(8, 0), (8, 2), (4, 0), (12, 2), (12, 1), (4, 1)]),
+        _ => (8, 1),
+    }
+}
+
+/// The start of a 21h: 0000h, stored, just beside the stored indexes, at either end, or any.
+fn list_start(random: &mut Random, shelf: &Shelf) -> u16 {
+    let (last, kept) = (shelf.store.last, shelf.store.kept() as u16);
+    let oldest = shelf.store.indexes().into_iter().find(|&index| index != 0).unwrap_or(last);
+    match random.below(10) {
+        0 => 0x0000,
+        1 => oldest.wrapping_sub(1),
+        2 => last.wrapping_add(1),
+        3 => random.pick(&[0x0001, 0x0002, 0xFFFE, 0xFFFF]),
+        4 => random.pick(&[oldest, last]),
+        5 => random.word() as u16,
+        _ => last.wrapping_sub(random.below(u32::from(kept) + 3) as u16),
+    }
 }
 
 /// "bytes 4 and 5 are neither 0000h nor the present count"
@@ -171,6 +215,9 @@ fn configure(random: &mut Random, shelf: &Shelf, frame: &mut [u8], d: usize) {
     frame[6] = random.word() as u8;
     frame[11] = d as u8;
     let monitors = &shelf.phys[usize::from(frame[9]).min(23)].monitors;
+    // Now and then all on one peak source, with low thresholds, so that a report takes several to
+    // theirs.
+    let peak = random.chance(15).then(|| states::peak_source(random));
     for (i, descriptor) in frame[12..].chunks_exact_mut(8).enumerate() {
         let monitor = monitors[i % 4];
         descriptor[3] = match random.below(40) {
@@ -180,7 +227,11 @@ fn configure(random: &mut Random, shelf: &Shelf, frame: &mut [u8], d: usize) {
             16 => random.below(256) as u8,
             _ => states::event_source(random),
         };
+        if let Some(peak) = peak {
+            descriptor[3] = peak;
+        }
         let threshold = match random.below(4) {
+            _ if peak.is_some() => monitor.value.min(200) + random.below(30),
             0 => monitor.value.wrapping_add(random.below(3)),
             1 => random.below(0x20),
             _ => random.number(),

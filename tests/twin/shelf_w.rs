@@ -1,4 +1,5 @@
-//! The thirteen cases of document 01's "Shelf W, for checking", and its "Easily got wrong".
+//! The thirteen cases of document 01's "Shelf W, for checking", and its "Easily got wrong"; then
+//! document 02's #101 on the same shelf.
 
 use super::*;
 
@@ -272,4 +273,214 @@ fn most_descriptors() {
     (shelf.number, shelf.expander3) = (24, 1);
     let response = serve(&mut shelf, 1, &[0x40, 6, 4, 0]).unwrap();
     assert_eq!((response.len(), response[3], response[7]), (400, 99, 49));
+}
+
+/// A 21h request with this start.
+fn list(start: u16) -> [u8; 8] {
+    let [high, low] = start.to_be_bytes();
+    [0x40, 0x21, 0, 1, 0, 0, high, low]
+}
+
+/// What group 1 is sent: bytes 3, 6 to 9 and 11 (length, first index, last index, number) and the
+/// descriptors, after looking at the rest.
+fn listed(shelf: &mut Shelf, start: u16) -> (u8, u16, u16, u8, Vec<[u8; 12]>) {
+    let response = serve(shelf, 1, &list(start)).unwrap();
+    let (head, rest) = response.split_first_chunk::<12>().unwrap();
+    let (descriptors, left) = rest.as_chunks::<12>();
+    assert_eq!((head[0], head[1], head[2], head[10]), (0x41, 0x21, 0x00, 3));
+    assert_eq!(head[4..6], shelf.changes.to_be_bytes());
+    assert!(left.is_empty());
+    let index = |at: usize| u16::from_be_bytes([head[at], head[at + 1]]);
+    (head[3], index(6), index(8), head[11], descriptors.to_vec())
+}
+
+/// Takes monitor 0 of phy 0, on 2Dh with threshold 10, to its threshold and stores it: one entry
+/// for each value. In between it is put on no source and back on 2Dh, which stores nothing.
+fn cross(shelf: &mut Shelf, values: std::ops::Range<u32>) {
+    for value in values {
+        for source in [0x00, 0x2D] {
+            serve(shelf, 8, &configure(0, 0, &[(source, 10)])).unwrap();
+        }
+        shelf.event(0, 0x2D, value).unwrap();
+    }
+}
+
+/// The descriptor that `cross` stores for a value.
+fn crossed(value: u8) -> [u8; 12] {
+    [0, 0, 0, 0x2D, 0, 0, 0, value, 0, 0, 0, 10]
+}
+
+#[test]
+fn list_of_an_empty_store() {
+    for start in [0x0000, 0x0001, 0xFFFF] {
+        let response = serve(&mut shelf_w(), 1, &list(start)).unwrap();
+        assert_eq!(response, [0x41, 0x21, 0x00, 0x02, 0, 1, 0, 0, 0, 0, 3, 0]);
+    }
+}
+
+#[test]
+fn list_of_one_that_crossed() {
+    let mut shelf = shelf_w();
+    assert_eq!(serve(&mut shelf, 8, &configure(0, 0, &[(0x2D, 10)])).unwrap(), OK_93);
+    for amount in [9, 10, 12] {
+        shelf.event(0, 0x2D, amount).unwrap();
+    }
+    let response = [
+        [0x41, 0x21, 0x00, 0x05, 0x00, 0x01, 0x00, 0x01, 0x00, 0x01, 3, 1],
+        [0x00, 0x00, 0x00, 0x2D, 0x00, 0x00, 0x00, 0x0A, 0x00, 0x00, 0x00, 0x0A],
+    ];
+    assert_eq!(serve(&mut shelf, 1, &list(0x0001)).unwrap(), response.concat());
+    assert_eq!(listed(&mut shelf, 0x0000), (2, 0x0000, 0x0001, 0, vec![]));
+}
+
+#[test]
+fn list_is_for_group_1_alone() {
+    let mut shelf = shelf_w();
+    cross(&mut shelf, 10..11);
+    for source in (0..32).filter(|&source| source != 1) {
+        assert_eq!(serve(&mut shelf, source, &list(1)).unwrap(), [0x41, 0x21, 0x21, 0x00]);
+    }
+    assert_eq!(serve(&mut shelf, 32, &list(1)), Err(H4));
+    let mut long = list(1).to_vec();
+    long.extend([0; 4]);
+    for length in [0x00, 0x02] {
+        long[3] = length;
+        for source in [1, 8] {
+            for frame in [&long[..], &long[..8], &long[..4]] {
+                assert_eq!(serve(&mut shelf, source, frame).unwrap(), [0x41, 0x21, 0x03, 0x00]);
+            }
+        }
+    }
+    for size in [4, 7] {
+        assert_eq!(serve(&mut shelf, 8, &list(1)[..size]).unwrap(), [0x41, 0x21, 0x03, 0x00]);
+    }
+}
+
+#[test]
+fn list_ignores_bytes_2_4_and_5() {
+    let mut shelf = shelf_w();
+    cross(&mut shelf, 10..11);
+    let as_sent = serve(&mut shelf, 1, &list(1)).unwrap();
+    assert_eq!(serve(&mut shelf, 1, &[0x40, 0x21, 0xFF, 1, 0xFF, 0xFF, 0, 1]).unwrap(), as_sent);
+}
+
+#[test]
+fn several_cross_in_monitor_order() {
+    let mut shelf = shelf_w();
+    let watch = [(0x2E, 5), (0x01, 5), (0x2E, 300), (0x2E, 7)];
+    serve(&mut shelf, 9, &configure(2, 0, &watch)).unwrap();
+    shelf.event(2, 0x2E, 7).unwrap();
+    let descriptors =
+        vec![[0, 0, 2, 0x2E, 0, 0, 0, 7, 0, 0, 0, 5], [0, 0, 2, 0x2E, 0, 0, 0, 7, 0, 0, 0, 7]];
+    assert_eq!(listed(&mut shelf, 1), (8, 1, 2, 2, descriptors));
+    shelf.event(2, 0x2E, 300).unwrap();
+    let third = vec![[0, 0, 2, 0x2E, 0, 0, 1, 44, 0, 0, 1, 44]];
+    assert_eq!(listed(&mut shelf, 3), (5, 3, 3, 1, third));
+}
+
+#[test]
+fn a_clear_stores_after_the_setting_and_before_the_zeros() {
+    let mut shelf = shelf_w();
+    let watch = [(0x2D, 100), (0x20, 0), (0x2E, 0), (0x2B, 50)];
+    serve(&mut shelf, 8, &configure(1, 0, &watch)).unwrap();
+    for source in [0x2D, 0x20, 0x2E, 0x2B] {
+        shelf.event(1, source, 9).unwrap();
+    }
+    assert_eq!(listed(&mut shelf, 1), (2, 0, 0, 0, vec![]));
+    // Monitor 0 goes to another peak source, monitor 1 to a peak source and monitor 2 to none.
+    let frame = configure(1, 1, &[(0x2C, 4), (0x2D, 5), (0x06, 6)]);
+    assert_eq!(serve(&mut shelf, 8, &frame).unwrap(), OK_93);
+    let descriptors = vec![
+        [0, 0, 1, 0x2C, 0, 0, 0, 0, 0, 0, 0, 4],
+        [0, 0, 1, 0x2D, 0, 0, 0, 0, 0, 0, 0, 5],
+        [0, 0, 1, 0x2B, 0, 0, 0, 9, 0, 0, 0, 50],
+    ];
+    assert_eq!(listed(&mut shelf, 1), (11, 1, 3, 3, descriptors));
+    // What is stored does not follow later changes.
+    serve(&mut shelf, 8, &configure(1, 0, &[(0x01, 1); 4])).unwrap();
+    assert_eq!(listed(&mut shelf, 3).4, [[0, 0, 1, 0x2B, 0, 0, 0, 9, 0, 0, 0, 50]]);
+}
+
+#[test]
+fn what_stores_nothing() {
+    let mut shelf = shelf_w();
+    serve(&mut shelf, 8, &configure(0, 1, &[(0x01, 1), (0x2D, 0)])).unwrap();
+    let store = shelf.store;
+    assert_eq!((store.last, store.count), (1, 1));
+    shelf.event(0, 0x01, 5).unwrap();
+    shelf.event(0, 0x2D, 5).unwrap();
+    shelf.event(0, 0x2E, 5).unwrap();
+    shelf.link_change(0).unwrap();
+    shelf.notice(false);
+    shelf.notice(true);
+    serve(&mut shelf, 8, &control(0, 0x05)).unwrap();
+    serve(&mut shelf, 8, &configure(1, 1, &[])).unwrap();
+    serve(&mut shelf, 9, &configure(0, 1, &[])).unwrap();
+    assert_eq!(shelf.store, store);
+}
+
+#[test]
+fn a_full_store_forgets_the_oldest() {
+    let mut shelf = shelf_w();
+    cross(&mut shelf, 10..42);
+    assert_eq!((shelf.store.last, shelf.store.count), (32, 32));
+    let (length, first, last, number, descriptors) = listed(&mut shelf, 1);
+    assert_eq!((length, first, last, number), (98, 1, 32, 32));
+    assert_eq!(descriptors, (10..42).map(crossed).collect::<Vec<_>>());
+    cross(&mut shelf, 42..43);
+    assert_eq!((shelf.store.last, shelf.store.count), (33, 33));
+    // 0001h is no longer stored: the lowest above it.
+    let whole = (98, 2, 33, 32, (11..43).map(crossed).collect::<Vec<_>>());
+    assert_eq!(listed(&mut shelf, 0x0001), whole);
+    // None is above: the lowest.
+    assert_eq!(listed(&mut shelf, 0x0022), whole);
+    assert_eq!(listed(&mut shelf, 0xFFFF), whole);
+    assert_eq!(listed(&mut shelf, 0x0021), (5, 33, 33, 1, vec![crossed(42)]));
+    assert_eq!(listed(&mut shelf, 0x0020), (8, 32, 33, 2, vec![crossed(41), crossed(42)]));
+    cross(&mut shelf, 43..74);
+    assert_eq!((shelf.store.last, shelf.store.count), (64, 32));
+    assert_eq!(listed(&mut shelf, 1).1, 33);
+}
+
+#[test]
+fn indexes_go_from_ffffh_to_0001h() {
+    let mut shelf = shelf_w();
+    (shelf.store.last, shelf.store.count) = (0xFFFE, 62);
+    cross(&mut shelf, 10..13);
+    assert_eq!((shelf.store.last, shelf.store.count), (0x0002, 33));
+    let three = vec![crossed(10), crossed(11), crossed(12)];
+    assert_eq!(listed(&mut shelf, 0xFFFF), (11, 0xFFFF, 2, 3, three));
+    assert_eq!(listed(&mut shelf, 0x0001), (8, 1, 2, 2, vec![crossed(11), crossed(12)]));
+    assert_eq!(listed(&mut shelf, 0x0002), (5, 2, 2, 1, vec![crossed(12)]));
+    // 30 indexes up to FFFFh, 0001h and 0002h. What is not stored gives the lowest above it, which
+    // is the oldest.
+    for start in [0x0003, 0xFFE1, 0xFFE2] {
+        let (length, first, last, number, descriptors) = listed(&mut shelf, start);
+        assert_eq!((length, first, last, number), (98, 0xFFE2, 2, 32));
+        assert_eq!(descriptors[29..], [crossed(10), crossed(11), crossed(12)]);
+    }
+}
+
+#[test]
+fn a_store_that_no_start_made() {
+    let mut shelf = shelf_w();
+    (shelf.store.last, shelf.store.count) = (0, 40);
+    assert_eq!(listed(&mut shelf, 1), (2, 0, 0, 0, vec![]));
+    cross(&mut shelf, 10..11);
+    assert_eq!((shelf.store.last, shelf.store.count), (1, 41));
+    assert_eq!(listed(&mut shelf, 1), (5, 1, 1, 1, vec![crossed(10)]));
+    // The 31 before it, which nobody stored, have FFE1h to FFFFh.
+    assert_eq!(listed(&mut shelf, 2).1, 0xFFE1);
+    (shelf.store.last, shelf.store.count) = (5, 0);
+    assert_eq!(listed(&mut shelf, 5), (2, 0, 5, 0, vec![]));
+    shelf.store.count = u32::MAX;
+    cross(&mut shelf, 11..12);
+    assert_eq!((shelf.store.last, shelf.store.count), (6, 32));
+    assert_eq!(shelf.store.entries[31].monitor.value, 11);
+}
+
+#[test]
+fn a_start_empties_the_store() {
+    let (groups, table, identifier) = parts();
+    assert_eq!(Shelf::start(4, &groups, &table, &identifier).unwrap().store, Store::EMPTY);
 }

@@ -2,7 +2,7 @@
 
 use crate::operations::{Fill, Operation};
 use crate::pair::{Difference, Place};
-use crate::words::{ShelfWords, FIRST_PHY, PHY_WORDS};
+use crate::words::{ShelfWords, ENTRY_WORDS, FIRST_ENTRY, FIRST_PHY, PHY_WORDS, STORE};
 
 /// The name of a word of the shelf, as in the header.
 pub fn word_name(at: usize) -> String {
@@ -13,9 +13,17 @@ pub fn word_name(at: usize) -> String {
         3 => "ses0".into(),
         4..=11 => format!("identifier[{}]", at - 4),
         12..FIRST_PHY => format!("table[{}]", at - 12),
-        _ => {
+        FIRST_PHY..STORE => {
             let (phy, word) = ((at - FIRST_PHY) / PHY_WORDS, (at - FIRST_PHY) % PHY_WORDS);
             format!("phys[{phy}].{}", phy_word_name(word))
+        }
+        STORE => "last".into(),
+        STORE..FIRST_ENTRY => "count".into(),
+        _ => {
+            let (entry, word) =
+                ((at - FIRST_ENTRY) / ENTRY_WORDS, (at - FIRST_ENTRY) % ENTRY_WORDS);
+            let part = ["phy", "monitor.source", "monitor.value", "monitor.threshold"][word];
+            format!("entries[{entry}].{part}")
         }
     }
 }

@@ -4,7 +4,7 @@
 use crate::operations::{Fill, Operation};
 use crate::pair::{Difference, Pair};
 use crate::states::Start;
-use crate::words::{ShelfWords, FIRST_PHY, PHY_WORDS, WORDS};
+use crate::words::{ShelfWords, ENTRY_WORDS, FIRST_ENTRY, FIRST_PHY, PHY_WORDS, STORE, WORDS};
 
 #[derive(Clone)]
 pub struct Episode {
@@ -114,8 +114,11 @@ impl Shrinker<'_> {
     /// Sets parts of the first state to 0, then single words to 0 or to something smaller.
     fn simplify_state(&mut self, episode: &mut Episode) -> bool {
         let phy = |p| FIRST_PHY + p * PHY_WORDS;
-        let mut parts = vec![0..WORDS, 0..FIRST_PHY, 6..FIRST_PHY, FIRST_PHY..WORDS];
+        let entry = |i| FIRST_ENTRY + i * ENTRY_WORDS;
+        let mut parts = vec![0..WORDS, 0..FIRST_PHY, 6..FIRST_PHY, FIRST_PHY..STORE, STORE..WORDS];
+        parts.push(FIRST_ENTRY..WORDS);
         parts.extend((0..24).map(|p| phy(p)..phy(p + 1)));
+        parts.extend((0..32).map(|i| entry(i)..entry(i + 1)));
         parts.extend((0..WORDS).map(|word| word..word + 1));
         let mut changed = false;
         for part in parts {
@@ -250,7 +253,7 @@ fn simpler_requests(source: u32, frame: &[u8], room: usize, fill: Fill) -> Vec<O
             simpler.push(request(fewer));
         }
     }
-    for size in [0, 4, 12, frame.len() / 2, frame.len().saturating_sub(1)] {
+    for size in [0, 4, 8, 12, frame.len() / 2, frame.len().saturating_sub(1)] {
         if size < frame.len() {
             simpler.push(request(frame[..size].to_vec()));
         }

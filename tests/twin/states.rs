@@ -2,7 +2,7 @@
 
 use crate::random::Random;
 use crate::twin::is_supported;
-use crate::words::{PhyWords, ShelfWords};
+use crate::words::{EntryWords, MonitorWords, PhyWords, ShelfWords};
 
 /// What a start takes.
 #[derive(Clone, PartialEq)]
@@ -82,11 +82,16 @@ pub fn start(random: &mut Random) -> Start {
     start
 }
 
+/// A peak source.
+pub fn peak_source(random: &mut Random) -> u8 {
+    0x2B + random.below(4) as u8
+}
+
 /// An event source: supported, most often; a peak, often.
 pub fn event_source(random: &mut Random) -> u8 {
     loop {
         let source = match random.below(8) {
-            0..=3 => 0x2B + random.below(4),
+            0..=3 => u32::from(peak_source(random)),
             4 | 5 => 1 + random.below(6),
             6 => 0x20 + random.below(11),
             _ => 0x40 + random.below(6),
@@ -117,9 +122,70 @@ fn phy(random: &mut Random, words: &mut PhyWords, lawful: bool) {
             _ => random.number(),
         };
     }
+    if random.chance(20) {
+        one_peak(random, words);
+    }
     words.change0 = random.count();
     words.expander1 = random.count();
     words.expander2 = random.count();
+}
+
+/// Puts all four monitors on one peak source, low values below low thresholds, so that one report
+/// can take several to theirs.
+fn one_peak(random: &mut Random, words: &mut PhyWords) {
+    let source = u32::from(peak_source(random));
+    for monitor in &mut words.monitors {
+        let value = random.below(20);
+        *monitor = MonitorWords { source, value, threshold: value + random.below(20) };
+    }
+}
+
+/// The store: empty, begun, or full and gone round; the last index often near its ends. On one that
+/// no start made, count and last index are anything.
+fn store(random: &mut Random, words: &mut ShelfWords, lawful: bool) {
+    words.count = match random.below(8) {
+        0 => 0,
+        1 | 2 => random.below(32),
+        3 => random.pick(&[31, 32, 33, 62, 63]),
+        _ => 32 + random.below(32),
+    };
+    words.last = match words.count {
+        begun @ 0..=31 => begun,
+        _ => full_index(random),
+    };
+    if !lawful && random.chance(60) {
+        words.count = random.pick(&[0, 0, 0, 31, 32, 33, 63, 64, 95, 0x8000_0000, u32::MAX]);
+        words.last = random.count();
+    }
+    if !lawful && random.chance(20) {
+        words.count = random.word();
+    }
+    let written = words.count.min(32) as usize;
+    for place in &mut words.entries[..if lawful { written } else { 32 }] {
+        *place = entry(random, lawful);
+    }
+}
+
+/// A last index of a store that is full: gone round a short while ago, about to, or neither.
+fn full_index(random: &mut Random) -> u32 {
+    match random.below(4) {
+        0 => 0xFFFF - random.below(4),
+        1 => 1 + random.below(36),
+        2 => 32 + random.below(64),
+        _ => 1 + random.below(0xFFFF),
+    }
+}
+
+fn entry(random: &mut Random, lawful: bool) -> EntryWords {
+    let any = !lawful && random.chance(30);
+    EntryWords {
+        phy: random.below(if any { 256 } else { 24 }),
+        monitor: MonitorWords {
+            source: if any { random.below(256) } else { u32::from(peak_source(random)) },
+            value: random.number(),
+            threshold: random.number(),
+        },
+    }
 }
 
 /// Random bits above the numbers that are narrower than their words.
@@ -138,6 +204,11 @@ fn junk(random: &mut Random, words: &mut ShelfWords) {
         for monitor in &mut phy.monitors {
             monitor.source |= random.word() << 8;
         }
+    }
+    words.last |= random.word() << 16;
+    for entry in &mut words.entries {
+        entry.phy |= random.word() << 8;
+        entry.monitor.source |= random.word() << 8;
     }
 }
 
@@ -167,6 +238,7 @@ pub fn words(random: &mut Random) -> ShelfWords {
     for p in &mut words.phys {
         phy(random, p, lawful);
     }
+    store(random, &mut words, lawful);
     if random.chance(60) {
         junk(random, &mut words);
     }

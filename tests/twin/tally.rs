@@ -2,19 +2,20 @@
 //! `ENOUGH` operations in which some kind of answer never occurred has failed.
 
 use crate::operations::Operation;
-use crate::twin::{is_counting, Phy, Shelf};
+use crate::twin::{is_counting, Phy, Shelf, Store};
 
 pub const ENOUGH: u64 = 200_000;
 
-const FUNCTIONS: [u8; 7] = [0x00, 0x01, 0x06, 0x11, 0x14, 0x91, 0x93];
+const FUNCTIONS: [u8; 8] = [0x00, 0x01, 0x06, 0x11, 0x14, 0x21, 0x91, 0x93];
 
 /// The results that each function can give; 00h is acceptance.
-const RESULTS: [&[u8]; 7] = [
+const RESULTS: [&[u8]; 8] = [
     &[0x00, 0x03],
     &[0x00, 0x03],
     &[0x00, 0x03, 0x02],
     &[0x00, 0x03, 0x10, 0x16],
     &[0x00, 0x03, 0x10, 0x16],
+    &[0x00, 0x03, 0x21],
     &[0x00, 0x03, 0x04, 0x10, 0x20, 0x13],
     &[0x00, 0x03, 0x04, 0x10, 0x20, 0x02, 0x17],
 ];
@@ -62,17 +63,47 @@ marks! {
     Wrapped "monitors wrapped",
     NumberAbove24 "operations on a phy number above 24",
     GroupAbove31 "operations about a phy in a group above 31",
+    Length03ToOthers "21h of a wrong length from another group than 1",
+    ListOfNone "21h of an empty store",
+    ListFrom0000h "21h from 0000h, store not empty",
+    ListFromOldest "21h from the oldest index",
+    ListFromStored "21h from a stored index, not the oldest",
+    ListFromAbove "21h from an index not stored, one above it",
+    ListFromLowest "21h from an index not stored, none above it",
+    ListOf32 "21h lists of 32",
+    ListOfBegun "21h whole lists of a store not full",
+    ListRound "21h lists across FFFFh",
+    Report1 "reports that store one",
+    Report2 "reports that store two",
+    Report3 "reports that store three",
+    Report4 "reports that store four",
+    Clear1 "clears that store one",
+    Clear2 "clears that store two",
+    Clear3 "clears that store three",
+    Clear4 "clears that store four",
+    StoreFirst "stores into an empty store",
+    StoreFills "stores that fill it",
+    StoreFull "stores into a full store",
+    PlaceRound "stores past the last place",
+    LastRound "last index FFFFh to 0001h or beyond",
+    CountAbove63 "stores where the count is above 63",
+    LastZero "stores where the last index is 0000h and the count is not 0",
+    CountZero "stores where the count is 0 and the last index is not 0000h",
+    StartEmpties "starts that empty a store",
 }
+
+const REPORTS: [Mark; 4] = [Mark::Report1, Mark::Report2, Mark::Report3, Mark::Report4];
+const CLEARS: [Mark; 4] = [Mark::Clear1, Mark::Clear2, Mark::Clear3, Mark::Clear4];
 
 pub struct Tally {
     refusals: [u64; 10],
-    results: [[u64; 0x21]; 7],
+    results: [[u64; 0x22]; 8],
     marks: [u64; MARKS.len()],
 }
 
 impl Tally {
     pub fn new() -> Tally {
-        Tally { refusals: [0; 10], results: [[0; 0x21]; 7], marks: [0; MARKS.len()] }
+        Tally { refusals: [0; 10], results: [[0; 0x22]; 8], marks: [0; MARKS.len()] }
     }
 
     fn mark(&mut self, mark: Mark, occurred: bool) {
@@ -101,9 +132,14 @@ impl Tally {
             return;
         }
         match operation {
-            Operation::Start(_) => return self.mark(Mark::Start, true),
-            Operation::Serve { frame, .. } => {
-                self.response(frame, &out[..told as usize], before, after)
+            Operation::Start(_) => {
+                self.mark(Mark::StartEmpties, before.store.kept() > 0);
+                return self.mark(Mark::Start, true);
+            }
+            Operation::Serve { source, frame, .. } => {
+                let out = &out[..told as usize];
+                self.mark(Mark::Length03ToOthers, *source != 1 && out[1..3] == [0x21, 0x03]);
+                self.response(frame, out, before, after)
             }
             &Operation::Event { source, amount, phy } => {
                 self.mark(Mark::Event, true);
@@ -116,6 +152,7 @@ impl Tally {
             Operation::Reach { .. } => self.mark(Mark::Reach, true),
         }
         self.counts(about(operation), before, after);
+        self.stored(is_request(operation), &before.store, &after.store);
     }
 
     fn response(&mut self, frame: &[u8], out: &[u8], before: &Shelf, after: &Shelf) {
@@ -134,6 +171,7 @@ impl Tally {
                 self.mark(Mark::ListUnderPhys, last != 0xFF);
                 self.mark(Mark::ListBoth, first == 0xFF && last != 0xFF);
             }
+            0x21 => self.list(u16::from_be_bytes([frame[6], frame[7]]), out, &before.store),
             0x91 => {
                 let was = before.phys[usize::from(frame[9])].enabled;
                 self.mark(Mark::Operation00, frame[10] == 0x00);
@@ -150,6 +188,29 @@ impl Tally {
             }
             _ => {}
         }
+    }
+
+    /// An accepted 21h with this start.
+    fn list(&mut self, start: u16, out: &[u8], store: &Store) {
+        let (kept, n) = (store.kept(), usize::from(out[11]));
+        self.mark(Mark::ListOfNone, kept == 0);
+        if kept == 0 {
+            return;
+        }
+        if start == 0x0000 {
+            return self.mark(Mark::ListFrom0000h, true);
+        }
+        let indexes = store.indexes();
+        let is_stored = indexes.contains(&start);
+        let is_oldest = indexes.iter().find(|&&index| index != 0) == Some(&start);
+        let one_above = indexes.iter().any(|&index| index > start);
+        self.mark(Mark::ListFromOldest, is_oldest);
+        self.mark(Mark::ListFromStored, is_stored && !is_oldest);
+        self.mark(Mark::ListFromAbove, !is_stored && one_above);
+        self.mark(Mark::ListFromLowest, !is_stored && !one_above);
+        self.mark(Mark::ListOf32, n == 32);
+        self.mark(Mark::ListOfBegun, n == kept && n < 32);
+        self.mark(Mark::ListRound, out[6..8] > out[8..10]);
     }
 
     fn event(&mut self, phy: &Phy, source: u8, amount: u32) {
@@ -179,6 +240,23 @@ impl Tally {
         self.mark(Mark::Change0Round, round(was.change0, is.change0));
         self.mark(Mark::Expander1Round, was.expander1 > is.expander1);
         self.mark(Mark::Expander2Round, round(was.expander2, is.expander2));
+    }
+
+    /// What the operation stored; a request stores by a clear.
+    fn stored(&mut self, by_clear: bool, before: &Store, after: &Store) {
+        let more = (after.count % 32 + 32 - before.count % 32) % 32;
+        if !(1..=4).contains(&more) {
+            return;
+        }
+        self.mark(if by_clear { CLEARS } else { REPORTS }[more as usize - 1], true);
+        self.mark(Mark::StoreFirst, before.last == 0 && before.count == 0);
+        self.mark(Mark::StoreFills, before.kept() < 32 && after.kept() == 32);
+        self.mark(Mark::StoreFull, before.kept() == 32);
+        self.mark(Mark::PlaceRound, before.count % 32 > after.count % 32);
+        self.mark(Mark::LastRound, before.last > after.last);
+        self.mark(Mark::CountAbove63, before.count > 63);
+        self.mark(Mark::LastZero, before.last == 0 && before.count != 0);
+        self.mark(Mark::CountZero, before.last != 0 && before.count == 0);
     }
 
     /// The counts, one line for each function and one for each group of other kinds.

@@ -1,14 +1,18 @@
-//! A second reading of document 01, written in plain Rust without looking at the shelf server
-//! Kinubarsil itself: a twin that `drive.rs` runs beside it, and the baseline of `tests/bench`.
+//! A second reading of document 01, and of document 02's #101, written in plain Rust without
+//! looking at the shelf server Kinubarsil itself: a twin that `drive.rs` runs beside it, and the
+//! baseline of `tests/bench`.
 //!
-//! The comments quote the sentences of document 01 where they are carried out. A `cfg!(fault = ..)`
-//! is a planted fault; without `--cfg` it is false and costs nothing. `tests/twin/run --faults`
-//! tries that the driver notices each of them.
+//! The comments quote the sentences of the documents where they are carried out. A
+//! `cfg!(fault = ..)` is a planted fault; without `--cfg` it is false and costs nothing.
+//! `tests/twin/run --faults` tries that the driver notices each of them.
 #![forbid(unsafe_code)]
 
 mod functions;
 #[cfg(test)]
 mod shelf_w;
+mod store;
+
+pub use store::{Entry, Store};
 
 /// "1 to 24 phys, numbered from 0."
 pub const MOST_PHYS: usize = 24;
@@ -37,6 +41,7 @@ pub const REPORT_MANUFACTURER_INFORMATION: u8 = 0x01;
 pub const REPORT_BROADCAST: u8 = 0x06;
 pub const REPORT_PHY_ERROR_LOG: u8 = 0x11;
 pub const REPORT_PHY_EVENT: u8 = 0x14;
+pub const REPORT_PHY_EVENT_LIST: u8 = 0x21;
 pub const PHY_CONTROL: u8 = 0x91;
 pub const CONFIGURE_PHY_EVENT: u8 = 0x93;
 
@@ -50,6 +55,7 @@ pub const UNKNOWN_PHY_OPERATION: u8 = 0x13;
 pub const PHY_VACANT: u8 = 0x16;
 pub const UNKNOWN_PHY_EVENT_SOURCE: u8 = 0x17;
 pub const SMP_ZONE_VIOLATION: u8 = 0x20;
+pub const NO_MANAGEMENT_ACCESS_RIGHTS: u8 = 0x21;
 
 type Buffer = [u8; ROOM];
 
@@ -85,6 +91,7 @@ pub struct Shelf {
     pub identifier: [u8; 8],
     pub table: [u32; GROUPS],
     pub phys: [Phy; MOST_PHYS],
+    pub store: Store,
 }
 
 /// "counting 01h to 06h, 20h to 2Ah, 40h to 45h"
@@ -209,13 +216,14 @@ impl Phy {
 
     /// "Each of the phy's monitors on that source changes: counting values wrap at 32 bits, peaks
     /// keep the larger. Sources 01h to 04h also add to the four error counts in the order above,
-    /// which stop at FFFFFFFFh."
-    fn count(&mut self, source: u8, amount: u32) {
+    /// which stop at FFFFFFFFh." The phy is number `p`.
+    fn count(&mut self, p: u8, source: u8, amount: u32, store: &mut Store) {
         if let 0x01..=0x04 = source {
             let error = &mut self.errors[usize::from(source - 1)];
             let wrap = cfg!(fault = "errors_wrap");
             *error = if wrap { error.wrapping_add(amount) } else { error.saturating_add(amount) };
         }
+        self.turn_if_falling();
         for monitor in self.monitors.iter_mut().filter(|monitor| monitor.source == source) {
             let before = monitor.value;
             if !is_peak(source) {
@@ -228,22 +236,52 @@ impl Phy {
             // "A peak that a report takes from below its threshold to it or above originates
             // Expander 1h, once per monitor."
             let below = before < monitor.threshold || cfg!(fault = "threshold_again");
-            if below && monitor.value >= monitor.threshold {
+            let crossed = below && monitor.value >= monitor.threshold;
+            if crossed {
                 originate(&mut self.expander1);
             }
+            // "Each origination of Expander 1h stores the monitor that crossed, in monitor order if
+            // several do, with its new value".
+            if crossed || cfg!(fault = "stored_uncrossed") {
+                let value = if cfg!(fault = "old_value_stored") { before } else { monitor.value };
+                store.keep(p, Monitor { value, ..*monitor });
+            }
         }
+        self.turn_if_falling();
     }
 
     /// "each of the phy's monitors on a peak source goes to 0, and if there is one such monitor or
-    /// more, Expander 2h is originated once."
-    fn clear_peaks(&mut self) {
+    /// more, Expander 2h is originated once." The phy is number `p`.
+    fn clear_peaks(&mut self, p: u8, store: &mut Store) {
         let mut any = false;
+        if !cfg!(fault = "stored_before_set") {
+            self.keep_peaks(p, store);
+        }
         for monitor in self.monitors.iter_mut().filter(|monitor| is_peak(monitor.source)) {
             monitor.value = 0;
             any = true;
         }
         if any {
             originate(&mut self.expander2);
+        }
+    }
+
+    /// "each Expander 2h stores every peak monitor of the phy with its value before the clear, in
+    /// monitor order."
+    fn keep_peaks(&mut self, p: u8, store: &mut Store) {
+        self.turn_if_falling();
+        for monitor in self.monitors.iter().filter(|monitor| is_peak(monitor.source)) {
+            let value = if cfg!(fault = "cleared_value_stored") { 0 } else { monitor.value };
+            store.keep(p, Monitor { value, ..*monitor });
+        }
+        self.turn_if_falling();
+    }
+
+    /// The planted fault that stores in falling monitor order: the monitors are turned around, and
+    /// back again.
+    fn turn_if_falling(&mut self) {
+        if cfg!(fault = "falling_order") {
+            self.monitors.reverse();
         }
     }
 }
@@ -280,6 +318,7 @@ impl Shelf {
             identifier: *identifier,
             table: *table,
             phys,
+            store: Store::EMPTY,
         })
     }
 
@@ -297,6 +336,7 @@ impl Shelf {
             REPORT_BROADCAST => self.report_broadcast(row, frame, out),
             REPORT_PHY_ERROR_LOG => self.report_phy_error_log(row, frame, out),
             REPORT_PHY_EVENT => self.report_phy_event(row, frame, out),
+            REPORT_PHY_EVENT_LIST => self.report_phy_event_list(source, frame, out),
             PHY_CONTROL => self.phy_control(row, frame, out),
             CONFIGURE_PHY_EVENT => self.configure_phy_event(row, frame, out),
             _ => Err(UNKNOWN_SMP_FUNCTION),
@@ -311,6 +351,7 @@ impl Shelf {
     /// "An event report names phy, source and a 32-bit amount."
     pub fn event(&mut self, phy: u32, source: u32, amount: u32) -> Result<(), u32> {
         let number = self.number();
+        let p = phy as u8;
         let phy = self.phys[..number].get_mut(phy as usize).ok_or(H7)?;
         let source = if cfg!(fault = "source_cut") { source & 0xFF } else { source };
         let source = u8::try_from(source).ok().filter(|&source| is_supported(source)).ok_or(H8)?;
@@ -322,7 +363,7 @@ impl Shelf {
         if amount > most {
             return Err(H9);
         }
-        phy.count(source, amount);
+        phy.count(p, source, amount, &mut self.store);
         Ok(())
     }
 

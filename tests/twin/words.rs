@@ -1,7 +1,7 @@
-//! The shelf as it stands in C's memory (firmware/kinubarsil.h): 548 words of 32 bits. How they are
+//! The shelf as it stands in C's memory (firmware/kinubarsil.h): 678 words of 32 bits. How they are
 //! read into the twin's shelf, and how the twin's shelf is laid over them, spare bits kept.
 
-use crate::twin::{Monitor, Phy, Shelf};
+use crate::twin::{Entry, Monitor, Phy, Shelf, Store};
 use std::mem::{offset_of, size_of};
 
 #[repr(C)]
@@ -26,6 +26,13 @@ pub struct PhyWords {
 
 #[repr(C)]
 #[derive(Clone, Copy)]
+pub struct EntryWords {
+    pub phy: u32,
+    pub monitor: MonitorWords,
+}
+
+#[repr(C)]
+#[derive(Clone, Copy)]
 pub struct ShelfWords {
     pub number: u32,
     pub changes: u32,
@@ -34,19 +41,30 @@ pub struct ShelfWords {
     pub identifier: [u32; 8],
     pub table: [u32; 32],
     pub phys: [PhyWords; 24],
+    pub last: u32,
+    pub count: u32,
+    pub entries: [EntryWords; 32],
 }
 
-pub const WORDS: usize = 548;
+pub const WORDS: usize = 678;
 pub const PHY_WORDS: usize = 21;
 pub const FIRST_PHY: usize = 44;
+pub const STORE: usize = 548;
+pub const ENTRY_WORDS: usize = 4;
+pub const FIRST_ENTRY: usize = 550;
 
 const _: () = assert!(size_of::<MonitorWords>() == 4 * 3);
 const _: () = assert!(size_of::<PhyWords>() == 4 * PHY_WORDS);
+const _: () = assert!(size_of::<EntryWords>() == 4 * ENTRY_WORDS);
 const _: () = assert!(size_of::<ShelfWords>() == 4 * WORDS);
 const _: () = assert!(offset_of!(PhyWords, monitors) == 4 * 6);
 const _: () = assert!(offset_of!(PhyWords, change0) == 4 * 18);
+const _: () = assert!(offset_of!(EntryWords, monitor) == 4 * 1);
 const _: () = assert!(offset_of!(ShelfWords, table) == 4 * 12);
 const _: () = assert!(offset_of!(ShelfWords, phys) == 4 * FIRST_PHY);
+const _: () = assert!(offset_of!(ShelfWords, last) == 4 * STORE);
+const _: () = assert!(offset_of!(ShelfWords, count) == 4 * (STORE + 1));
+const _: () = assert!(offset_of!(ShelfWords, entries) == 4 * FIRST_ENTRY);
 
 /// A number above 255 stands for one that is too large as well: the twin keeps a byte of the phy
 /// number and of a group, and neither means anything above 24 and 31.
@@ -105,6 +123,17 @@ impl PhyWords {
     }
 }
 
+impl EntryWords {
+    fn read(&self) -> Entry {
+        Entry { phy: self.phy as u8, monitor: self.monitor.read() }
+    }
+
+    fn lay(&mut self, entry: &Entry) {
+        lay(&mut self.phy, 0xFF, u32::from(entry.phy));
+        self.monitor.lay(&entry.monitor);
+    }
+}
+
 impl ShelfWords {
     pub const ZERO: ShelfWords = ShelfWords {
         number: 0,
@@ -122,6 +151,12 @@ impl ShelfWords {
             expander1: 0,
             expander2: 0,
         }; 24],
+        last: 0,
+        count: 0,
+        entries: [EntryWords {
+            phy: 0,
+            monitor: MonitorWords { source: 0, value: 0, threshold: 0 },
+        }; 32],
     };
 
     /// The shelf that the words stand for.
@@ -134,6 +169,11 @@ impl ShelfWords {
             identifier: self.identifier.map(|word| word as u8),
             table: self.table,
             phys: std::array::from_fn(|p| self.phys[p].read()),
+            store: Store {
+                last: self.last as u16,
+                count: self.count,
+                entries: std::array::from_fn(|i| self.entries[i].read()),
+            },
         }
     }
 
@@ -150,6 +190,11 @@ impl ShelfWords {
         self.table = shelf.table;
         for (words, phy) in self.phys.iter_mut().zip(&shelf.phys) {
             words.lay(phy);
+        }
+        lay(&mut self.last, 0xFFFF, u32::from(shelf.store.last));
+        self.count = shelf.store.count;
+        for (words, entry) in self.entries.iter_mut().zip(&shelf.store.entries) {
+            words.lay(entry);
         }
     }
 
