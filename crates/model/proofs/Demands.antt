@@ -1,7 +1,8 @@
 -- What the request demands, as theorems over the definitions.
 
 -- demands 1 and 2: the house refusals, the function results, the writes, their effects and those of event reports, what fits, the response
--- frames, what every operation keeps, what moves the change count, and that every request and report has one outcome
+-- frames, what every operation keeps, what moves the change count, the list of stored peak events (#101: what is stored with an
+-- origination, that the list is the history, what a request for it is given), and that every request and report has one outcome
 pub mod Refusals
 pub mod Results
 pub mod Writes
@@ -12,6 +13,8 @@ pub mod Frames
 pub mod Invariant
 pub mod ChangeCount
 pub mod Stored
+pub mod History
+pub mod EventList
 pub mod Outcomes
 -- demand 3: what a shelf looks like to a group, one operation, a crossed-out one, what remains of a run, the theorem, and what a reader
 -- will ask

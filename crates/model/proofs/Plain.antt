@@ -7,6 +7,7 @@ pub mod Reach
 pub mod Sources
 pub mod Counting
 pub mod Store
+pub mod EventList
 pub mod Start
 pub mod Reports
 pub mod Request

@@ -8,7 +8,7 @@ use Rattle.model.specs.declared.Store.{Store}
 use Rattle.model.specs.Reply.{eventListHead, reportPhyEventList}
 use Rattle.model.specs.Server.{leastBuffer}
 use Rattle.model.specs.Store.{kept, entries, firstReturned, returned}
-use Rattle.model.proofs.Plain.Store.{firstOf, ByNumber, returned-few}
+use Rattle.model.proofs.Plain.EventList.{firstOf, ByNumber, returned-few}
 use Rattle.replies.specs.Listed.{Lists}
 use Rattle.replies.specs.Sent.{Sent}
 use Rattle.replies.proofs.Listing.{list-sent}

@@ -6,7 +6,7 @@ use mathlib.Core.Path.{_≡_, _∙_}
 use mathlib.Core.List.{List}
 use lib.ListN.{length}
 use Rattle.model.specs.Store.{returned}
-use Rattle.model.proofs.Plain.Store.{many, ByNumber, by-number}
+use Rattle.model.proofs.Plain.EventList.{many, ByNumber, by-number}
 use Rattle.words.specs.Words.{shelfOf, storeOf}
 
 last-narrow : (ws : List ℕ) → shelfOf ws .store .last ≤ 0xFFFF

@@ -10,7 +10,7 @@ use Rattle.model.specs.declared.Entry.{Entry}
 use Rattle.model.specs.declared.Store.{Store}
 use Rattle.model.specs.Store.{entryAt, place, kept, entries}
 use Rattle.model.specs.Tests.{joinBelow}
-use Rattle.model.proofs.Plain.Store.{last-entries}
+use Rattle.model.proofs.Plain.EventList.{last-entries}
 use Rattle.replies.specs.Listed.{Lists}
 use Rattle.replies.proofs.Listing.{lists-none, lists-append, lists-length}
 use Rattle.peaks.specs.Listed.{entryList}

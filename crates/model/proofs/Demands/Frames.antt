@@ -40,7 +40,7 @@ use Rattle.model.proofs.Laws.Places.{All, all-append, all-each, each-al
 use Rattle.model.proofs.Laws.Tests.{cond-both}
 use Rattle.model.proofs.Plain.Reply.{broadcast-bytes-length, entry-bytes-length, ofPhy, listed-iff, kept-small}
 use Rattle.model.proofs.Plain.Request.{by-function}
-use Rattle.model.proofs.Plain.Store.{returned-few, returned-all}
+use Rattle.model.proofs.Plain.EventList.{returned-few, returned-all}
 
 -- "Response byte 0 is 41h, byte 1 the function, byte 2 the result, byte 3 the number of dwords that follow." The longest is a 06h, of 8 bytes
 -- and 49 descriptors of 8; a 21h has 12 and at most 32 descriptors of 12; 1,028 are lent.

@@ -1,7 +1,7 @@
 -- `peaks::report_phy_event_list` meets its contract: the list, and then its head in front of it. Assumes nothing.
 use borrow.Author.Needs.{needs}
 use native.Mathlib.Omega.{arith}
-use Rattle.model.proofs.Plain.Store.{returned-few}
+use Rattle.model.proofs.Plain.EventList.{returned-few}
 use Rattle.replies.proofs.Room.{none-sent}
 use Rattle.words.specs.Words.{shelfOf}
 use Rattle.peaks.proofs.Listing.{report-sent}
