@@ -11,10 +11,15 @@ use mathlib.Core.List.{List, [], _∷_, map}
 use lib.ListN.{length}
 use Rattle.model.specs.Bytes.{byte}
 use Rattle.model.specs.CrossedOut.{remains}
-use Rattle.model.specs.Fits.{BytesFit, Sound, AllFit, StartFits}
+use Rattle.model.specs.Fits.{BytesFit, OperationFits, Sound, AllFit, StartFits}
+use Rattle.model.specs.History.{history}
 use Rattle.model.specs.Request.{functionOf}
 use Rattle.model.specs.Runs.{Operation, Ask, after, answers}
 use Rattle.model.proofs.Demands.Effects.{Controlled, Configured}
+use Rattle.model.proofs.Demands.EventList.{listFor}
+use Rattle.model.proofs.Demands.History.{IsHistory}
+use Rattle.model.proofs.Demands.Stored.{StoredTogether}
+use Rattle.model.proofs.Demands.Strangers.{listCode}
 use Rattle.model.proofs.Demands.Writes.{ControlPasses, ConfigurePasses}
 use Rattle.model.proofs.Laws.Lowest.{Gives}
 use Rattle.model.proofs.Laws.Places.{All}
@@ -23,13 +28,13 @@ use Rattle.words.specs.Sizes.{shelfWords}
 use Rattle.words.specs.Words.{shelfOf}
 use Rattle.calls.specs.Operations.{lentBefore, refusals, firstRefusal, Given, startOf, startRefusalsOf}
 use Rattle.calls.specs.Runs.{Goes, Starts, RunsAs, codedTold, RunFrom, operations, lastWords, got}
-use Rattle.calls.specs.Left.{Fails, WordsFullOrNone}
+use Rattle.calls.specs.Left.{Fails, Answers, WordsFullOrNone}
 use Rattle.calls.specs.Interface.{Interface}
 use Rattle.calls.specs.Linked.{Linked, Server, Host, interface}
-use Rattle.calls.proofs.OneCall.{goes-same, lowest-told, refusal-stays, fails, control-writes, configure-writes}
+use Rattle.calls.proofs.OneCall.{goes-same, lowest-told, refusal-stays, fails, list-refuses, list-answers, stores-together, control-writes, configure-writes}
 use Rattle.calls.proofs.ManyCalls.{Go, ends, got-answers}
 use Rattle.calls.proofs.Starting.{start-lowest, start-stays, same-told, same-words}
-use Rattle.calls.proofs.Starting.{begun-goes, begun-shelf, begun-sound, begun-demand-3}
+use Rattle.calls.proofs.Starting.{begun-goes, begun-shelf, begun-sound, begun-history, begun-demand-3}
 use Rattle.calls.proofs.Follows.{Follows}
 use Rattle.calls.proofs.ServerFollows.{server-follows}
 use Rattle.calls.proofs.HostFollows.{host-follows}
@@ -104,6 +109,24 @@ module _ (linked : Linked) where
     call-configure-write memory =
         configure-writes coded (seen call) (call-goes call (memory .size)) refusal (follows linked .reads) g frame out asks answered memory
 
+    -- #101, 21h: "only source group 1 may ask". Another group learns nothing by it but whether its length was right;
+    pub call-list-refused : let c = seen call in length (c .before) ≡ shelfWords
+        → functionOf frame ≡ 0x21 → (g ≡ 1 → ⊥) → Fails coded frame out (listCode frame) c
+    call-list-refused long =
+        list-refuses coded (seen call) (call-goes call long) refusal (follows linked .reads) g frame out asks answered long
+
+    -- group 1 is given the list of the shelf that the words stand for, from its starting index on.
+    pub call-list-given : let c = seen call in length (c .before) ≡ shelfWords
+        → g ≡ 1 → functionOf frame ≡ 0x21 → length frame ≡ 8 → byte frame 3 ≡ 0x01
+        → Answers coded (listFor (shelfOf (c .before)) frame) out c
+    call-list-given long =
+        list-answers coded (seen call) (call-goes call long) refusal (follows linked .reads) g frame out asks answered long
+
+  -- An origination of Expander 1h or 2h and its entries in that list come together, or not at all.
+  pub call-stored : (call : Call) → let c = seen call in Memory (c .before) → OperationFits (c .asked)
+      → StoredTogether (shelfOf (c .before)) (shelfOf (c .after))
+  call-stored call memory = stores-together coded (seen call) (call-goes call (memory .size)) memory
+
   -- ---- Calls one after another, each handed the words that the one before left
 
   all-go : (calls : List Call) → All (Go coded) (map seen calls)
@@ -141,11 +164,17 @@ module _ (linked : Linked) where
     started-shelf =
         begun-shelf coded refusal (follows linked .reads-start) (started x) (start-goes x) taken fit (map seen calls) (all-go calls)
 
-    -- and that one keeps the invariant.
+    -- that one keeps the invariant;
     pub started-sound : let run = map seen calls in RunFrom (started x .after) run → AllFit (operations run)
         → Sound (shelfOf (lastWords (started x .after) run))
     started-sound =
         begun-sound coded refusal (follows linked .reads-start) (started x) (start-goes x) taken fit (map seen calls) (all-go calls)
+
+    -- and its list of stored peak events is the history of the run.
+    pub started-history : let run = map seen calls in RunFrom (started x .after) run → AllFit (operations run)
+        → IsHistory (shelfOf (lastWords (started x .after) run) .store) (history (startOf (started x .asked) .shelf) (operations run))
+    started-history =
+        begun-history coded refusal (follows linked .reads-start) (started x) (start-goes x) taken fit (map seen calls) (all-go calls)
 
   -- ---- Demand 3
 

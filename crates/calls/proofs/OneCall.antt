@@ -1,5 +1,6 @@
 -- One call that goes as the model does: nothing but the words and what is asked for matters to it; its house refusal is the lowest that
--- applies, and leaves words and buffer; a failed result leaves the words; a write has its full effect or none. Assumes nothing.
+-- applies, and leaves words and buffer; a failed result leaves the words; a write has its full effect or none; group 1 is given the list of
+-- stored peak events, no other group is, and what is stored comes with its origination. Assumes nothing.
 use Prim.Native.Nat.{ℕ, _≤_}
 use native.Mathlib.Omega.{arith}
 use mathlib.Core.Path.{_≡_, refl, sym, ap, ap₂, subst, subst⁻¹, _∙_}
@@ -12,10 +13,13 @@ use Rattle.model.specs.Request.{functionOf}
 use Rattle.model.specs.Runs.{Operation, Ask, Event, LinkChange, ReducedFunctionality, Ses, QueryReach, next}
 use Rattle.model.specs.Server.{served, lentAfter}
 use Rattle.model.proofs.Demands.Effects.{Controlled, Configured}
+use Rattle.model.proofs.Demands.EventList.{listFor, ListGiven, list-given}
 use Rattle.model.proofs.Demands.Invariant.{fits-placed}
 use Rattle.model.proofs.Demands.Refusals.{request-gives, event-gives, link-change-gives, query-gives}
 use Rattle.model.proofs.Demands.Refusals.{request-refusal, event-refusal, link-change-refusal}
 use Rattle.model.proofs.Demands.Results.{Failed, NotRefused, failed-result}
+use Rattle.model.proofs.Demands.Stored.{StoredTogether, placed-next-stored}
+use Rattle.model.proofs.Demands.Strangers.{listCode, list-refused}
 use Rattle.model.proofs.Demands.Writes.{ControlPasses, ConfigurePasses, FullOrNone, placed-control-write, placed-configure-write}
 use Rattle.model.proofs.Laws.Lowest.{Gives, row-gives}
 use Rattle.words.specs.Memory.{Memory}
@@ -26,7 +30,7 @@ use Rattle.words.proofs.Lens.{stands-fit}
 use Rattle.words.proofs.Steps.{next-stands, next-memory}
 use Rattle.calls.specs.Operations.{Said, ToRequest, said, saidNumber, lentBefore, bufferAfter, refusals, firstRefusal}
 use Rattle.calls.specs.Runs.{Asks, Goes}
-use Rattle.calls.specs.Left.{Fails, WordsFullOrNone}
+use Rattle.calls.specs.Left.{Fails, Answers, WordsFullOrNone}
 
 -- ---- The model, of every kind of operation alike
 
@@ -84,6 +88,16 @@ module _ {A : Type 0} (coded : Said → A) (c : Asks A) (goes : Goes coded (shel
   pub leaves-memory : Memory (c .before) → OperationFits (c .asked) → Memory (c .after)
   leaves-memory memory fit = subst⁻¹ Memory (goes .words) (next-memory (c .before) (c .asked) memory fit)
 
+  -- where the words have their sizes, the shelf that they stand for has
+  placed : Memory (c .before) → Placed (shelfOf (c .before))
+  placed memory = fits-placed (shelfOf (c .before)) (stands-fit (c .before) memory)
+
+  -- an origination of Expander 1h or 2h and its entries come together, or not at all
+  pub stores-together : Memory (c .before) → OperationFits (c .asked) → StoredTogether (shelfOf (c .before)) (shelfOf (c .after))
+  stores-together memory fit =
+      subst⁻¹ (StoredTogether (shelfOf (c .before))) (stand memory fit)
+      (placed-next-stored (shelfOf (c .before)) (placed memory) (c .asked))
+
   -- where the number of a refusal can be read off what is told
   module _ (refusal : A → ℕ) (reads : (s : Shelf) (o : Operation) → refusal (coded (said s o)) ≡ saidNumber (said s o)) where
     number-told : refusal (c .told) ≡ saidNumber (said (shelfOf (c .before)) (c .asked))
@@ -105,9 +119,13 @@ module _ {A : Type 0} (coded : Said → A) (c : Asks A) (goes : Goes coded (shel
       abbrev s : Shelf
       s = shelfOf (c .before)
 
-      asks-goes : (c .after ≡ laidOver (c .before) (served s g frame out .shelf))
-          × (c .told ≡ coded (ToRequest (served s g frame out .answer)))
-          × (c .buffer ≡ lentAfter s g frame out)
+      abbrev AsksGoes : ℕ → Type 0
+      AsksGoes h =
+          (c .after ≡ laidOver (c .before) (served s h frame out .shelf))
+          × (c .told ≡ coded (ToRequest (served s h frame out .answer)))
+          × (c .buffer ≡ lentAfter s h frame out)
+
+      asks-goes : AsksGoes g
       unfolding next served said bufferAfter
       asks-goes = (
         goes .words ∙ ap (λ o. laidOver (c .before) (next s o)) asks,
@@ -119,15 +137,33 @@ module _ {A : Type 0} (coded : Said → A) (c : Asks A) (goes : Goes coded (shel
       unfolding said
       not-refused = sym (ap (λ o. saidNumber (said s o)) asks) ∙ sym number-told ∙ answered
 
-      pub fails : length (c .before) ≡ shelfWords → (code : ℕ) → byte (c .buffer) 2 ≡ code → 1 ≤ code → Fails coded frame out code c
-      fails long code drawn some =
+      -- one that fails, from what the model says of it
+      failing : length (c .before) ≡ shelfWords → {code : ℕ} → Failed s g frame out code → Fails coded frame out code c
+      failing long failed =
           let (words, told, buffer) = asks-goes in
-          let failed : Failed s g frame out code =
-          failed-result s g frame out code not-refused (ap (λ b. byte b 2) (sym buffer) ∙ drawn) some in
           record {
             words = words ∙ ap (laidOver (c .before)) (failed .stays) ∙ laid-same (c .before) long;
             told = told ∙ ap (λ a. coded (ToRequest a)) (failed .told);
             buffer = buffer ∙ failed .left;
+          }
+
+      pub fails : length (c .before) ≡ shelfWords → (code : ℕ) → byte (c .buffer) 2 ≡ code → 1 ≤ code → Fails coded frame out code c
+      fails long code drawn some =
+          failing long (failed-result s g frame out code not-refused (ap (λ b. byte b 2) (sym (asks-goes .2)) ∙ drawn) some)
+
+      -- a 21h, of a group other than 1 and of group 1
+      pub list-refuses : length (c .before) ≡ shelfWords → functionOf frame ≡ 0x21 → (g ≡ 1 → ⊥) → Fails coded frame out (listCode frame) c
+      list-refuses long e other = failing long (list-refused s g frame out not-refused e other)
+
+      pub list-answers : length (c .before) ≡ shelfWords → g ≡ 1 → functionOf frame ≡ 0x21 → length frame ≡ 8 → byte frame 3 ≡ 0x01
+          → Answers coded (listFor s frame) out c
+      list-answers long one e size byte-3 =
+          let (words, told, buffer) = subst (λ h. AsksGoes h) one asks-goes in
+          let given : ListGiven s frame out = list-given s frame out (subst (λ h. NotRefused s h frame out) one not-refused) e size byte-3 in
+          record {
+            words = words ∙ ap (laidOver (c .before)) (given .stays) ∙ laid-same (c .before) long;
+            told = told ∙ ap (λ a. coded (ToRequest a)) (given .told);
+            buffer = buffer ∙ given .left;
           }
 
       -- a write, from what the model says of it
@@ -143,9 +179,6 @@ module _ {A : Type 0} (coded : Said → A) (c : Asks A) (goes : Goes coded (shel
             full = λ passes. subst⁻¹ Full next-shelf (write .full passes);
             none = λ stopped. words ∙ ap (laidOver (c .before)) (write .none stopped) ∙ laid-same (c .before) (memory .size);
           }
-
-      placed : Memory (c .before) → Placed s
-      placed memory = fits-placed s (stands-fit (c .before) memory)
 
       pub control-writes : Memory (c .before) → BytesFit frame → functionOf frame ≡ 0x91
           → WordsFullOrNone (ControlPasses s g frame) (Controlled s (byte frame 9) (byte frame 10)) (c .before) (c .after)

@@ -1,5 +1,5 @@
 -- A start that goes as the model does: its house refusal is the lowest that applies, and leaves the words; and a run that it begins keeps
--- the invariant and meets demand 3. Assumes nothing.
+-- the invariant, has its history for the list of stored peak events, and meets demand 3. Assumes nothing.
 use Prim.Native.Nat.{ℕ, _≤_}
 use native.Mathlib.Omega.{arith}
 use mathlib.Core.Path.{_≡_, refl, sym, ap, subst, subst⁻¹, _∙_}
@@ -9,9 +9,11 @@ use Rattle.model.specs.declared.Taken.{Taken}
 use Rattle.model.specs.declared.Taken.the-variants.{Done, NotDone}
 use Rattle.model.specs.CrossedOut.{remains}
 use Rattle.model.specs.Fits.{Sound, AllFit, StartFits}
+use Rattle.model.specs.History.{history}
 use Rattle.model.specs.House.{takenNumber}
 use Rattle.model.specs.Runs.{after, answers}
 use Rattle.model.specs.Shelf.{startTaken, start}
+use Rattle.model.proofs.Demands.History.{IsHistory, list-is-history}
 use Rattle.model.proofs.Demands.Invariant.{start-sound, after-sound}
 use Rattle.model.proofs.Demands.Isolation.{demand-3}
 use Rattle.model.proofs.Demands.Refusals.{start-gives}
@@ -81,6 +83,12 @@ module _ {A : Type 0} (coded : Said → A) (refusal : A → ℕ)
 
           pub begun-sound : Sound (shelfOf (lastWords (x .after) run))
           begun-sound = subst⁻¹ Sound begun-shelf (after-sound _ (operations run) fits fresh-sound)
+
+          pub begun-history :
+              IsHistory (shelfOf (lastWords (x .after) run) .store) (history (startOf (x .asked) .shelf) (operations run))
+          begun-history =
+              subst⁻¹ (λ s. IsHistory (s .store) (history (startOf (x .asked) .shelf) (operations run))) begun-shelf
+              (list-is-history (x .asked .number) (x .asked .groups) (x .asked .table) (x .asked .identifier) (operations run))
 
           begun-answers : (g : ℕ) → got g run ≡ map (codedTold coded) (answers g (startOf (x .asked) .shelf) (operations run))
           begun-answers g = got-answers coded g _ run begun-goes

@@ -20,6 +20,7 @@ use crate::pieces::there;
 use crate::reach::reach_set;
 use crate::request::serve_asked;
 use crate::request::turned_away;
+use crate::storing::any_marked;
 use crate::storing::store_marked;
 use counters::counts::originate;
 use counters::phy::change_on;
@@ -108,11 +109,13 @@ pub fn event(words: &mut [u32; WORDS], phy: u32, source: u32, amount: u32) -> Ta
     };
     let done = event_on(source, amount, phy_at(words, phy));
     let after = done.phy;
-    let monitors = done.monitors;
     let stored = done.stored;
     let changes = changes_after(words, done.change);
     put(words, phy, after, changes);
-    store_marked(words, phy as u8, monitors, stored);
+    if any_marked(stored) {
+        let monitors = done.monitors;
+        store_marked(words, phy as u8, monitors, stored);
+    }
     Taken::Done
 }
 

@@ -2,6 +2,7 @@
 // its response.
 use crate::pieces::changes_after;
 use crate::pieces::grounds;
+use crate::storing::any_marked;
 use crate::storing::store_marked;
 use model::FunctionResult;
 use replies::sending::send_result;
@@ -51,11 +52,13 @@ fn configure(words: &mut [u32; WORDS], frame: &[u8], clear: bool, phy: u8, d: u8
     let before = phy_at(words, phy as u32);
     let done = configured(frame, d, clear, before);
     let after = done.phy;
-    let monitors = done.monitors;
     let stored = done.stored;
     let changes = changes_after(words, done.change);
     put(words, phy as u32, after, changes);
-    store_marked(words, phy, monitors, stored);
+    if any_marked(stored) {
+        let monitors = done.monitors;
+        store_marked(words, phy, monitors, stored);
+    }
 }
 
 // 91h. "Response 4 bytes": the result, accepted or not.

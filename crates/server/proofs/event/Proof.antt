@@ -13,7 +13,7 @@ use Rattle.model.proofs.Plain.Reports.{event-done}
 use Rattle.words.specs.Sizes.{shelfWords}
 use Rattle.words.specs.Words.{shelfOf}
 use Rattle.words.proofs.Laying.{laid-same}
-use Rattle.server.proofs.Carrying.{carried-stored}
+use Rattle.server.proofs.Carrying.{carried-unmarked, carried-stored}
 use Rattle.server.proofs.event.Statement.{statement}
 use Rattle.server.proofs.event.Tie as tie
 
@@ -46,17 +46,21 @@ phy-fits c =
     let there = event-done s (a .phy) (a .source) (a .amount) .0 (sym (taken-is told) ∙ c .enum-told .given .1) .phy-exists in
     exists-iff s (a .phy) .0 there .1
 
+-- the report, at the place where its phy has been put back
+abbrev done-at : tie.After-put → tie.After-enum-told
+done-at put = put .before .before .before .before .before .before .before .before .before
+
 cast-store-marked : tie.Need-cast-store-marked
-cast-store-marked c = let below = phy-fits (c .before .before .before .before .before .before .before .before .before .before .before) in omega arith
+cast-store-marked c = let below = phy-fits (done-at (c .before .before .before .before)) in omega arith
 
 returns-2 : tie.Need-returns-2
 unfolding event
 returns-2 c =
-    let put = c .before .before in
+    let put = c .before .before .before .before .before in
     let moved = put .before .before in
-    let made = moved .before .before .before .before .before in
+    let made = moved .before .before .before .before in
     let read = made .before in
-    let done = read .before .before in
+    let done = done-at put in
     let told = done .before .before in
     let a = told .before .before .before .before .before .args in
     rw (sym (taken-is told) ∙ done .enum-told .given .1) (
@@ -68,8 +72,26 @@ returns-2 c =
           (c .store-marked .ensures),
     )
 
+returns-3 : tie.Need-returns-3
+unfolding event
+returns-3 c =
+    let put = c .before .before in
+    let moved = put .before .before in
+    let made = moved .before .before .before .before in
+    let read = made .before in
+    let done = done-at put in
+    let told = done .before .before in
+    let a = told .before .before .before .before .before .args in
+    rw (sym (taken-is told) ∙ done .enum-told .given .1) (
+      refl,
+      carried-unmarked (a .words .now) (a .phy) (eventOn (a .source) (a .amount)) (read .phy-at .ensures) (made .event-on .ensures)
+          (moved .changes-after .ensures)
+          (put .put .ensures)
+          (sym (c .before .any-marked .ensures) ∙ c .if1 .left),
+    )
+
 pub event-spec : {M : Type 1} → statement M
 event-spec =
     tie.close
     (tie.spec (search needs) (search needs) (search needs) (search needs) returns (search needs) (search needs) (search needs) (search needs)
-    cast-store-marked (search needs) returns-2)
+    (search needs) cast-store-marked (search needs) returns-2 returns-3)
