@@ -34,8 +34,9 @@ extern "C" {
  * it. The bits above are never read, and no call changes them, except a start, which sets them to
  * 0. So there is no content of these words that the server may not be given. On words that no start
  * made, a phy number above 24 counts as 24, and a phy whose group is above 31 is reached by nobody;
- * of the store, `count` % 32 is the place that is written next, and `count` entries are kept, 32 at
- * most, and none where `last` is 0000h.
+ * of the store, `count` % 32 is the place that is written next, `count` entries are kept, 32 at
+ * most, and none where `last` is 0000h; after a `count` of 32 or more comes 32 + (count + 1) % 32;
+ * and 21h shows `last` as the last index stored, whatever `count` is.
  */
 struct smp_monitor {
     uint32_t source;    /* 8 bits: the event source */

@@ -24,7 +24,9 @@ use operations::Operation;
 use pair::{Difference, Pair};
 use random::Random;
 use shrink::{Episode, Shrinker};
+use states::Start;
 use tally::Tally;
+use words::ShelfWords;
 
 struct Options {
     operations: u64,
@@ -76,6 +78,53 @@ fn episode(
         }
     }
     Ok(length)
+}
+
+/// From a start, clears of four peaks each until the indexes have gone from FFFFh to 0001h, with no
+/// words but those that the start and the clears made; in between the desk reads from before,
+/// within and behind what is stored. Gives how many operations it had, or what differed.
+fn once_round(
+    random: &mut Random,
+    pair: &mut Pair,
+    tally: &mut Tally,
+) -> Result<u64, Box<(Episode, Difference)>> {
+    let state = ShelfWords::ZERO;
+    let mut operations: Vec<Operation> = Vec::new();
+    pair.load(&state);
+    let mut table = [0x2; 32];
+    table[1] = u32::MAX;
+    let start = Start { number: 24, groups: [1; 24], table, identifier: [0; 8] };
+    let mut next = Operation::Start(Box::new(start));
+    let mut stored: u32 = 0;
+    while stored <= 0x1_0020 {
+        let before = pair.twin;
+        let told = pair.step(&next);
+        operations.push(next);
+        let told = match told {
+            Ok(told) => told,
+            Err(difference) => return Err(Box::new((Episode { state, operations }, difference))),
+        };
+        let last = &operations[operations.len() - 1];
+        tally.note(last, told, &before, &pair.twin, &pair.twin_out);
+        let serve = |frame: Vec<u8>| {
+            let fill = operations::Fill::Byte(0xEE);
+            Operation::Serve { source: 1, frame, room: twin::ROOM, fill }
+        };
+        next = if operations.len() % 4 == 0 {
+            let back = random.below(40) as u16;
+            let [high, low] = pair.twin.store.last.wrapping_add(3).wrapping_sub(back).to_be_bytes();
+            serve(vec![0x40, 0x21, 0, 1, 0, 0, high, low])
+        } else {
+            stored += 4;
+            let mut frame = vec![0x40, 0x93, 0, 10, 0, 0, 1, 0, 0, random.below(24) as u8, 0, 4];
+            for _ in 0..4 {
+                frame.extend([0, 0, 0, states::peak_source(random)]);
+                frame.extend(random.number().to_be_bytes());
+            }
+            serve(frame)
+        };
+    }
+    Ok(operations.len() as u64)
 }
 
 /// Prints the shortest sequence that still differs.
@@ -146,6 +195,15 @@ fn main() -> ExitCode {
         if shown.elapsed().as_secs() >= 1 {
             eprintln!("twin: {done} of {} operations", options.operations);
             shown = Instant::now();
+        }
+    }
+    match once_round(&mut random, &mut pair, &mut Tally::new()) {
+        Ok(more) => println!("twin: once round from a start: {more} operations, no difference"),
+        Err(found) => {
+            let (episode, difference) = *found;
+            let number = done + episode.operations.len() as u64;
+            report(&options, number, episode, difference, &mut pair);
+            return ExitCode::FAILURE;
         }
     }
     if summary(&options, &tally) {

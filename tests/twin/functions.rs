@@ -131,7 +131,8 @@ impl Shelf {
         out: &mut Buffer,
     ) -> Result<usize, u8> {
         let by_reach = cfg!(fault = "list_by_reach") && self.reach(source) == self.reach(1);
-        let may_ask = source == 1 || by_reach || cfg!(fault = "list_for_all");
+        let by_row = cfg!(fault = "list_by_row") && self.table[source as usize] == u32::MAX;
+        let may_ask = source == 1 || by_reach || by_row || cfg!(fault = "list_for_all");
         if cfg!(fault = "rights_before_length") && !may_ask {
             return Err(NO_MANAGEMENT_ACCESS_RIGHTS);
         }

@@ -69,6 +69,11 @@ impl Pair {
         self.fill(Fill::Byte(0));
     }
 
+    /// The shelf as the server left it.
+    pub fn words(&self) -> &ShelfWords {
+        &self.memory.shelf
+    }
+
     /// Runs one operation on both sides. Gives the answer, or the first difference.
     pub fn step(&mut self, operation: &Operation) -> Result<u32, Difference> {
         let shelf = &mut self.memory.shelf;

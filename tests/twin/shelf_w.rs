@@ -354,6 +354,25 @@ fn list_is_for_group_1_alone() {
     for size in [4, 7] {
         assert_eq!(serve(&mut shelf, 8, &list(1)[..size]).unwrap(), [0x41, 0x21, 0x03, 0x00]);
     }
+    long[3] = 0x01;
+    for size in [9, 12] {
+        for source in [1, 8] {
+            let response = serve(&mut shelf, source, &long[..size]).unwrap();
+            assert_eq!(response, [0x41, 0x21, 0x03, 0x00]);
+        }
+    }
+}
+
+/// "depends on nothing else": neither on an empty store nor on the start nor on the row.
+#[test]
+fn rights_are_by_the_number_alone() {
+    for start in [0x0000, 0x0001] {
+        assert_eq!(serve(&mut shelf_w(), 8, &list(start)).unwrap(), [0x41, 0x21, 0x21, 0x00]);
+    }
+    let mut shelf = shelf_w();
+    (shelf.table[8], shelf.table[1]) = (0xFFFF_FFFF, 0x0000_0000);
+    assert_eq!(serve(&mut shelf, 8, &list(1)).unwrap(), [0x41, 0x21, 0x21, 0x00]);
+    assert_eq!(listed(&mut shelf, 1), (2, 0, 0, 0, vec![]));
 }
 
 #[test]
@@ -415,7 +434,20 @@ fn what_stores_nothing() {
     shelf.notice(true);
     serve(&mut shelf, 8, &control(0, 0x05)).unwrap();
     serve(&mut shelf, 8, &configure(1, 1, &[])).unwrap();
-    serve(&mut shelf, 9, &configure(0, 1, &[])).unwrap();
+    assert_eq!(serve(&mut shelf, 9, &configure(0, 1, &[])).unwrap()[2], SMP_ZONE_VIOLATION);
+    let five = configure(0, 1, &[(0x2D, 0); 5]);
+    assert_eq!(serve(&mut shelf, 8, &five).unwrap()[2], SMP_FUNCTION_FAILED);
+    let unknown = configure(0, 1, &[(0x2D, 0), (0x07, 0)]);
+    assert_eq!(serve(&mut shelf, 8, &unknown).unwrap()[2], UNKNOWN_PHY_EVENT_SOURCE);
+    let mut late = configure(0, 1, &[]);
+    late[5] = 9;
+    assert_eq!(serve(&mut shelf, 8, &late).unwrap()[2], INVALID_EXPANDER_CHANGE_COUNT);
+    assert_eq!(serve(&mut shelf, 32, &configure(0, 1, &[])), Err(H4));
+    // A threshold under a standing peak, and a report that H9 refuses.
+    serve(&mut shelf, 8, &configure(0, 0, &[(0x2B, 10), (0x2D, 5)])).unwrap();
+    assert_eq!(shelf.phys[0].monitors[1], Monitor { source: 0x2D, value: 5, threshold: 5 });
+    assert_eq!(shelf.event(0, 0x2B, 0x100), Err(H9));
+    shelf.event(0, 0x2D, 6).unwrap();
     assert_eq!(shelf.store, store);
 }
 
@@ -435,6 +467,7 @@ fn a_full_store_forgets_the_oldest() {
     // None is above: the lowest.
     assert_eq!(listed(&mut shelf, 0x0022), whole);
     assert_eq!(listed(&mut shelf, 0xFFFF), whole);
+    assert_eq!(listed(&mut shelf, 0x0000), (2, 0, 33, 0, vec![]));
     assert_eq!(listed(&mut shelf, 0x0021), (5, 33, 33, 1, vec![crossed(42)]));
     assert_eq!(listed(&mut shelf, 0x0020), (8, 32, 33, 2, vec![crossed(41), crossed(42)]));
     cross(&mut shelf, 43..74);

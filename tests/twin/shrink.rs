@@ -49,6 +49,7 @@ impl Shrinker<'_> {
     }
 
     pub fn shrink(&mut self, episode: &mut Episode) {
+        self.last_alone(episode);
         self.leave_out(episode);
         self.move_to_phy_0(episode);
         loop {
@@ -56,6 +57,19 @@ impl Shrinker<'_> {
             if !self.leave_out(episode) && !changed {
                 break;
             }
+        }
+    }
+
+    /// The last operation alone, on the words that the ones before it left: a start of a 21h, say,
+    /// fits only what they stored, so that none of them can be left out.
+    fn last_alone(&mut self, episode: &mut Episode) {
+        let Some((last, operations)) = episode.operations.split_last() else {
+            return;
+        };
+        let before = Episode { state: episode.state, operations: operations.to_vec() };
+        if self.run(&before).is_none() {
+            let candidate = Episode { state: *self.pair.words(), operations: vec![last.clone()] };
+            self.take(episode, candidate);
         }
     }
 

@@ -230,7 +230,8 @@ pub fn words(random: &mut Random) -> ShelfWords {
             _ => words.number,
         };
         if random.chance(50) {
-            words.table.fill_with(|| random.word());
+            // In a legal table no row but row 1 is all ones; here others are, now and then.
+            words.table.fill_with(|| if random.chance(15) { u32::MAX } else { random.word() });
         }
     }
     (words.changes, words.expander3, words.ses0) = (random.count(), random.count(), random.count());

@@ -2,7 +2,7 @@
 //! `ENOUGH` operations in which some kind of answer never occurred has failed.
 
 use crate::operations::Operation;
-use crate::twin::{is_counting, Phy, Shelf, Store};
+use crate::twin::{is_counting, is_peak, Phy, Shelf, Store};
 
 pub const ENOUGH: u64 = 200_000;
 
@@ -70,6 +70,7 @@ marks! {
     ListFromStored "21h from a stored index, not the oldest",
     ListFromAbove "21h from an index not stored, one above it",
     ListFromLowest "21h from an index not stored, none above it",
+    ListGoneRound "21h from an index not stored, store gone round",
     ListOf32 "21h lists of 32",
     ListOfBegun "21h whole lists of a store not full",
     ListRound "21h lists across FFFFh",
@@ -81,11 +82,21 @@ marks! {
     Clear2 "clears that store two",
     Clear3 "clears that store three",
     Clear4 "clears that store four",
+    ClearMoved "clears that store a peak moved to another peak source",
+    ClearMovedTo "clears that store a monitor moved to a peak source from none",
+    ClearMovedOff "clears that store, a peak moved off before",
+    ClearAllMovedOff "clears that store nothing, all peaks moved off before",
+    Refused04 "04h to a clear that would have stored",
+    Refused20 "20h to a clear that would have stored",
+    Refused02 "02h to a clear that would have stored",
+    Refused17 "17h to a clear that would have stored",
+    RefusedH9 "H9 to a report that would have stored",
     StoreFirst "stores into an empty store",
     StoreFills "stores that fill it",
     StoreFull "stores into a full store",
     PlaceRound "stores past the last place",
     LastRound "last index FFFFh to 0001h or beyond",
+    LastWithin "last index FFFFh to 0001h within what is stored",
     CountAbove63 "stores where the count is above 63",
     LastZero "stores where the last index is 0000h and the count is not 0",
     CountZero "stores where the count is 0 and the last index is not 0000h",
@@ -129,6 +140,7 @@ impl Tally {
             );
             let link_change = matches!(operation, Operation::LinkChange { .. });
             self.mark(Mark::H7LinkChange, told & 0xF == 7 && link_change);
+            self.mark(Mark::RefusedH9, told & 0xF == 9 && would_cross(operation, before));
             return;
         }
         match operation {
@@ -161,6 +173,16 @@ impl Tally {
             return self.mark(Mark::Unknown, result == 0x01);
         };
         self.results[row][usize::from(result)] += 1;
+        if function == 0x93 && frame.len() >= 12 && frame[6] & 1 == 1 {
+            let number = usize::from(before.number).min(24);
+            if let Some(phy) = before.phys[..number].get(usize::from(frame[9])) {
+                let watched = phy.monitors.iter().any(|monitor| is_peak(monitor.source));
+                self.mark(Mark::Refused04, result == 0x04 && watched);
+                self.mark(Mark::Refused20, result == 0x20 && watched);
+                self.mark(Mark::Refused02, result == 0x02 && watched);
+                self.mark(Mark::Refused17, result == 0x17 && watched);
+            }
+        }
         if result != 0 {
             return;
         }
@@ -185,9 +207,24 @@ impl Tally {
                 let moved = before.phys[p].expander2 != after.phys[p].expander2;
                 self.mark(Mark::FourDescriptors, frame[11] == 4);
                 self.mark(Mark::ClearNothing, frame[6] & 1 == 1 && !moved);
+                if frame[6] & 1 == 1 {
+                    self.clear(&before.phys[p], &after.phys[p]);
+                }
             }
             _ => {}
         }
+    }
+
+    /// An accepted 93h with a clear: what its descriptors did to the sources.
+    fn clear(&mut self, before: &Phy, after: &Phy) {
+        let sources = [0, 1, 2, 3].map(|i| (before.monitors[i].source, after.monitors[i].source));
+        let any = |moved: fn(u8, u8) -> bool| sources.iter().any(|&(was, is)| moved(was, is));
+        let stores = any(|_, is| is_peak(is));
+        let off = any(|was, is| is_peak(was) && !is_peak(is));
+        self.mark(Mark::ClearMoved, any(|was, is| is_peak(was) && is_peak(is) && was != is));
+        self.mark(Mark::ClearMovedTo, any(|was, is| !is_peak(was) && is_peak(is)));
+        self.mark(Mark::ClearMovedOff, stores && off);
+        self.mark(Mark::ClearAllMovedOff, !stores && off);
     }
 
     /// An accepted 21h with this start.
@@ -202,12 +239,14 @@ impl Tally {
         }
         let indexes = store.indexes();
         let is_stored = indexes.contains(&start);
-        let is_oldest = indexes.iter().find(|&&index| index != 0) == Some(&start);
+        let oldest = indexes.iter().copied().find(|&index| index != 0).unwrap_or(0);
+        let is_oldest = oldest == start;
         let one_above = indexes.iter().any(|&index| index > start);
         self.mark(Mark::ListFromOldest, is_oldest);
         self.mark(Mark::ListFromStored, is_stored && !is_oldest);
         self.mark(Mark::ListFromAbove, !is_stored && one_above);
         self.mark(Mark::ListFromLowest, !is_stored && !one_above);
+        self.mark(Mark::ListGoneRound, !is_stored && oldest > store.last);
         self.mark(Mark::ListOf32, n == 32);
         self.mark(Mark::ListOfBegun, n == kept && n < 32);
         self.mark(Mark::ListRound, out[6..8] > out[8..10]);
@@ -254,6 +293,7 @@ impl Tally {
         self.mark(Mark::StoreFull, before.kept() == 32);
         self.mark(Mark::PlaceRound, before.count % 32 > after.count % 32);
         self.mark(Mark::LastRound, before.last > after.last);
+        self.mark(Mark::LastWithin, before.last > after.last && before.last != 0xFFFF);
         self.mark(Mark::CountAbove63, before.count > 63);
         self.mark(Mark::LastZero, before.last == 0 && before.count != 0);
         self.mark(Mark::CountZero, before.last != 0 && before.count == 0);
@@ -300,6 +340,18 @@ impl Tally {
 
 fn is_request(operation: &Operation) -> bool {
     matches!(operation, Operation::Serve { .. })
+}
+
+/// Whether an event report, were it accepted, would take a peak to its threshold.
+fn would_cross(operation: &Operation, shelf: &Shelf) -> bool {
+    let &Operation::Event { phy, source, amount } = operation else {
+        return false;
+    };
+    let crosses = |value, threshold| value < threshold && amount >= threshold;
+    shelf.phys.get(phy as usize).is_some_and(|phy| {
+        let watching = phy.monitors.iter().filter(|monitor| u32::from(monitor.source) == source);
+        watching.into_iter().any(|monitor| crosses(monitor.value, monitor.threshold))
+    })
 }
 
 /// The phy that an operation is about.

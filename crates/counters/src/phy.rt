@@ -10,7 +10,7 @@ use model::Phy;
 ghost use mathlib.Core.Path.{_≡_};
 ghost use Prim.Native.Nat.{max};
 ghost use mathlib.Core.Bool.{cond};
-ghost use mathlib.Core.List.{map};
+ghost use mathlib.Core.List.{_∷_, [], map};
 ghost use Rattle.model.specs.Counting.{originateIf, addWrapping, counted, crosses};
 ghost use Rattle.model.specs.Counting.{crossings, addError, eventOn, changeOn};
 ghost use Rattle.model.specs.Sources.{peak};
@@ -78,16 +78,16 @@ fn originate_if(mark: bool, count: u16) -> u16
 }
 
 // .. and after all four. Most reports take none there.
-fn originate_marked(marks: [bool; 4], count: u16) -> u16
-    ensures { λ r. ⌜ r ≡ originateMarked marks count ⌝ }
+fn originate_marked(first: bool, second: bool, third: bool, fourth: bool, count: u16) -> u16
+    ensures { λ r. ⌜ r ≡ originateMarked (first ∷ second ∷ third ∷ fourth ∷ []) count ⌝ }
 {
-    if !(marks[0] | marks[1] | marks[2] | marks[3]) {
+    if !(first | second | third | fourth) {
         return count;
     }
-    let after0 = originate_if(marks[0], count);
-    let after1 = originate_if(marks[1], after0);
-    let after2 = originate_if(marks[2], after1);
-    originate_if(marks[3], after2)
+    let after0 = originate_if(first, count);
+    let after1 = originate_if(second, after0);
+    let after2 = originate_if(third, after1);
+    originate_if(fourth, after2)
 }
 
 // The four monitors after a report.
@@ -127,7 +127,7 @@ pub fn event_on(source: u32, amount: u32, before: Phy) -> Effect
     let mut after = before;
     after.errors = added;
     after.monitors = counted;
-    after.expander1 = originate_marked(marks, before.expander1);
+    after.expander1 = originate_marked(marks[0], marks[1], marks[2], marks[3], before.expander1);
     Effect {
         phy: after,
         change: false,

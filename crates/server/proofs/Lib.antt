@@ -2,6 +2,7 @@
 -- request comes to as a whole.
 pub mod Numbers
 pub mod Answering
+pub mod Typed
 pub mod Carrying
 pub mod Handling
 -- Each public promise settles its outcome.

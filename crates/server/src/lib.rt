@@ -20,8 +20,7 @@ use crate::pieces::there;
 use crate::reach::reach_set;
 use crate::request::serve_asked;
 use crate::request::turned_away;
-use crate::storing::any_marked;
-use crate::storing::store_marked;
+use crate::storing::store_if;
 use counters::counts::originate;
 use counters::phy::change_on;
 use counters::phy::event_on;
@@ -109,12 +108,17 @@ pub fn event(words: &mut [u32; WORDS], phy: u32, source: u32, amount: u32) -> Ta
     };
     let done = event_on(source, amount, phy_at(words, phy));
     let after = done.phy;
+    let monitors = done.monitors;
     let stored = done.stored;
     let changes = changes_after(words, done.change);
     put(words, phy, after, changes);
-    if any_marked(stored) {
-        let monitors = done.monitors;
-        store_marked(words, phy as u8, monitors, stored);
+    // most reports store nothing
+    if stored[0] | stored[1] | stored[2] | stored[3] {
+        let named = phy as u8;
+        store_if(words, named, stored[0], monitors[0]);
+        store_if(words, named, stored[1], monitors[1]);
+        store_if(words, named, stored[2], monitors[2]);
+        store_if(words, named, stored[3], monitors[3]);
     }
     Taken::Done
 }

@@ -2,8 +2,7 @@
 // its response.
 use crate::pieces::changes_after;
 use crate::pieces::grounds;
-use crate::storing::any_marked;
-use crate::storing::store_marked;
+use crate::storing::store_if;
 use model::FunctionResult;
 use replies::sending::send_result;
 use results::check_configure;
@@ -52,12 +51,15 @@ fn configure(words: &mut [u32; WORDS], frame: &[u8], clear: bool, phy: u8, d: u8
     let before = phy_at(words, phy as u32);
     let done = configured(frame, d, clear, before);
     let after = done.phy;
+    let monitors = done.monitors;
     let stored = done.stored;
     let changes = changes_after(words, done.change);
     put(words, phy as u32, after, changes);
-    if any_marked(stored) {
-        let monitors = done.monitors;
-        store_marked(words, phy, monitors, stored);
+    if clear {
+        store_if(words, phy, stored[0], monitors[0]);
+        store_if(words, phy, stored[1], monitors[1]);
+        store_if(words, phy, stored[2], monitors[2]);
+        store_if(words, phy, stored[3], monitors[3]);
     }
 }
 

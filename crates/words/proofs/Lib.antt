@@ -10,7 +10,6 @@ pub mod Laying
 pub mod Whole
 -- words and shelf fit together, and so after entries stored one after another, and after every call
 pub mod Lens
-pub mod Widths
 pub mod Storing
 pub mod Steps
 -- the layout on numbers

@@ -2,7 +2,7 @@
 -- Assumes nothing.
 use borrow.Author.Needs.{needs}
 use native.Mathlib.Omega.{arith}
-use Prim.Native.Nat.{_<_}
+use Prim.Native.Nat.{_<_, _≤_}
 use mathlib.Core.Path.{_≡_, refl, sym, _∙_}
 use lib.ListN.{length}
 use Rattle.model.specs.Counting.{eventOn}
@@ -14,6 +14,7 @@ use Rattle.words.specs.Sizes.{shelfWords}
 use Rattle.words.specs.Words.{shelfOf}
 use Rattle.words.proofs.Laying.{laid-same}
 use Rattle.server.proofs.Carrying.{carried-unmarked, carried-stored}
+use Rattle.server.proofs.Typed.{typed}
 use Rattle.server.proofs.event.Statement.{statement}
 use Rattle.server.proofs.event.Tie as tie
 
@@ -48,36 +49,45 @@ phy-fits c =
 
 -- the report, at the place where its phy has been put back
 abbrev done-at : tie.After-put → tie.After-enum-told
-done-at put = put .before .before .before .before .before .before .before .before .before
+done-at put = put .before .before .before .before .before .before .before .before .before .before
 
-cast-store-marked : tie.Need-cast-store-marked
-cast-store-marked c = let below = phy-fits (done-at (c .before .before .before .before)) in omega arith
+cast-named : tie.Need-cast-named
+cast-named c = let below = phy-fits (done-at (c .before)) in omega arith
 
 returns-2 : tie.Need-returns-2
 unfolding event
 returns-2 c =
-    let put = c .before .before .before .before .before in
+    let third = c .before .before .before in
+    let second = third .before .before .before in
+    let first = second .before .before .before in
+    let put = first .before .before .before .before in
     let moved = put .before .before in
-    let made = moved .before .before .before .before in
+    let made = moved .before .before .before .before .before in
     let read = made .before in
     let done = done-at put in
     let told = done .before .before in
     let a = told .before .before .before .before .before .args in
+    let below = phy-fits done in
     rw (sym (taken-is told) ∙ done .enum-told .given .1) (
       refl,
       carried-stored (a .words .now) (a .phy) (eventOn (a .source) (a .amount)) (read .phy-at .ensures) (made .event-on .ensures)
           (moved .changes-after .ensures)
           (put .put .ensures)
           (long told)
-          (c .store-marked .ensures),
+          (let z : a .phy ≤ 0xFF = omega arith in z)
+          (typed (made .event-on .result) (made .event-on .ok .1 .1 .1 .1))
+          (first .store-if .ensures)
+          (second .store-if2 .ensures)
+          (third .store-if3 .ensures)
+          (c .store-if4 .ensures),
     )
 
 returns-3 : tie.Need-returns-3
 unfolding event
 returns-3 c =
-    let put = c .before .before in
+    let put = c .before in
     let moved = put .before .before in
-    let made = moved .before .before .before .before in
+    let made = moved .before .before .before .before .before in
     let read = made .before in
     let done = done-at put in
     let told = done .before .before in
@@ -87,11 +97,13 @@ returns-3 c =
       carried-unmarked (a .words .now) (a .phy) (eventOn (a .source) (a .amount)) (read .phy-at .ensures) (made .event-on .ensures)
           (moved .changes-after .ensures)
           (put .put .ensures)
-          (sym (c .before .any-marked .ensures) ∙ c .if1 .left),
+          (typed (made .event-on .result) (made .event-on .ok .1 .1 .1 .1))
+          (c .if1 .left),
     )
 
 pub event-spec : {M : Type 1} → statement M
 event-spec =
     tie.close
     (tie.spec (search needs) (search needs) (search needs) (search needs) returns (search needs) (search needs) (search needs) (search needs)
-    (search needs) cast-store-marked (search needs) returns-2 returns-3)
+    (search needs) (search needs) (search needs) (search needs) cast-named (search needs) (search needs) (search needs) (search needs)
+    (search needs) (search needs) (search needs) (search needs) (search needs) (search needs) (search needs) (search needs) returns-2 returns-3)
