@@ -17,9 +17,9 @@ pub enum Call {
 
 /// Every stream.
 #[rustfmt::skip]
-pub const NAMES: [&str; 31] = [
-    "start", "00", "01", "06", "11", "14", "21", "21newest", "91", "93", "93set", "event",
-    "crossing", "below", "link_change", "notice", "reach", "mixed",
+pub const NAMES: [&str; 33] = [
+    "start", "00", "01", "06", "11", "14", "21", "21newest", "91", "93", "93set", "93none", "event",
+    "counting", "crossing", "below", "link_change", "notice", "reach", "mixed",
     "h4", "h5", "h6", "result01", "result03", "result21", "result04", "result10", "result16",
     "result20", "result13", "result02", "result17",
 ];
@@ -125,8 +125,12 @@ fn call(name: &str, i: u32, phys: u32) -> Option<Call> {
         "93" => request(1, configure(phy, 1, &[(0x01, 5), ([0x2D, 0x2E][turn % 2], 10)])),
         // The same without a clear: stores nothing.
         "93set" => request(1, configure(phy, 0, &[(0x01, 5), ([0x2D, 0x2E][turn % 2], 10)])),
+        // A clear that finds no peak: stores nothing.
+        "93none" => request(1, configure(phy, 1, &[(0x00, 0); 4])),
         // 2Dh crosses once on each phy, in the first 240 calls; from then on nothing is stored.
         "event" => Call::Event { phy, source: [0x01, 0x2D, 0x20, 0x45][turn % 4], amount: i },
+        // Counting sources alone.
+        "counting" => Call::Event { phy, source: [0x01, 0x20, 0x45][turn % 3], amount: i },
         "crossing" => pair(i, phys, 20),
         "below" => pair(i, phys, 9),
         "start" => Call::Start { phys },
@@ -160,7 +164,7 @@ pub fn stores(name: &str) -> Option<u16> {
     match name {
         "crossing" => Some(120),
         "93" => Some(480),
-        "93set" | "below" | "21" | "21newest" | "result21" => Some(0),
+        "93set" | "93none" | "counting" | "below" | "21" | "21newest" | "result21" => Some(0),
         _ => None,
     }
 }

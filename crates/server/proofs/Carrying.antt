@@ -1,5 +1,5 @@
--- What is done to a phy is carried out on the words: its record is put back, with the change count after it, and what is marked of its
--- monitors is stored. One law for the two writes and the two reports. Assumes nothing.
+-- What is done to a phy is carried out on the words: what is marked of its monitors is stored, and its record is put back, with the change
+-- count after it. One law for the two writes and the two reports. Assumes nothing.
 use Prim.Native.Nat.{ℕ, _≤_}
 use native.Mathlib.Omega.{arith}
 use mathlib.Core.Path.{_≡_, refl, sym, ap, _∙_}
@@ -22,8 +22,9 @@ use Rattle.model.proofs.Plain.Counting.{none-picked}
 use Rattle.words.specs.Sizes.{shelfWords}
 use Rattle.words.specs.Words.{shelfOf, laidOver}
 use Rattle.words.proofs.Pieces.{EntryLow}
-use Rattle.words.proofs.Storing.{Laid, laid-phy, laid-list}
+use Rattle.words.proofs.Storing.{laid-nothing, laid-phy, laid-list}
 use Rattle.server.specs.Stored.{ifMarked, storedOver}
+use Rattle.server.proofs.StoredFirst.{put-after}
 use Rattle.server.proofs.Typed.{Typed}
 
 -- ---- The four monitors of a phy, one after another, are what is picked of them
@@ -54,23 +55,23 @@ none-marked marks ms size none =
     each false false false true h = absurd (true≢false h)
     each false false false false h = sym (none-picked 4 ms)
 
--- ---- From what the calls promise: the phy was read, this is done to it, the count is the one after that, and both were put back
+-- ---- From what the calls promise: the phy was read, this is done to it, and the count is the one after that
 
-module _ (ws : List ℕ) (p : ℕ) (f : Phy → Effect) {x : Phy} {e : Effect} {count : ℕ} {now : List ℕ} (read : x ≡ phyAt (shelfOf ws) p)
-    (made : e ≡ f x) (moved : count ≡ originateIf (e .change) (shelfOf ws .changes))
-    (is-now : now ≡ laidOver ws (put (shelfOf ws) p (e .phy) count))
+module _ (ws : List ℕ) (p : ℕ) (f : Phy → Effect) {x : Phy} {e : Effect} {count : ℕ} (read : x ≡ phyAt (shelfOf ws) p) (made : e ≡ f x)
+    (moved : count ≡ originateIf (e .change) (shelfOf ws .changes))
   where
-    -- where nothing is stored that is all
-    pub carried : storeAll (shelfOf ws .store) (entriesOf p (f (phyAt (shelfOf ws) p))) ≡ shelfOf ws .store
-        → now ≡ laidOver ws (carriedOut (shelfOf ws) p (f (phyAt (shelfOf ws) p)))
-    carried none =
-        rw (← read, ← made) (is-now ∙ ap (λ n. laidOver ws (put (shelfOf ws) p (e .phy) n)) moved
+    -- where nothing is stored, both are put, and that is all
+    pub carried : storeAll (shelfOf ws .store) (entriesOf p (f (phyAt (shelfOf ws) p))) ≡ shelfOf ws .store → {next : List ℕ}
+        → next ≡ laidOver ws (put (shelfOf ws) p (e .phy) count) → next ≡ laidOver ws (carriedOut (shelfOf ws) p (f (phyAt (shelfOf ws) p)))
+    carried none is-next =
+        rw (← read, ← made) (is-next ∙ ap (λ n. laidOver ws (put (shelfOf ws) p (e .phy) n)) moved
         ∙ ap (λ k. laidOver ws (putStore (put (shelfOf ws) p (e .phy) (originateIf (e .change) (shelfOf ws .changes))) k))
         (sym (rw (← read, ← made) at none)))
 
     pub carried-unmarked : Typed e
         → (getD (e .stored) 0 false || getD (e .stored) 1 false || getD (e .stored) 2 false || getD (e .stored) 3 false) ≡ false
-        → now ≡ laidOver ws (carriedOut (shelfOf ws) p (f (phyAt (shelfOf ws) p)))
+        → {next : List ℕ} → next ≡ laidOver ws (put (shelfOf ws) p (e .phy) count)
+        → next ≡ laidOver ws (carriedOut (shelfOf ws) p (f (phyAt (shelfOf ws) p)))
     carried-unmarked typed none = carried (rw (← read, ← made, ← none-marked (e .stored) (e .monitors) (typed .marks) none))
 
     module _ (long : length ws ≡ shelfWords) (small : p ≤ 0xFF) (typed : Typed e) where
@@ -92,17 +93,36 @@ module _ (ws : List ℕ) (p : ℕ) (f : Phy → Effect) {x : Phy} {e : Effect} {
           (four freshMonitor (λ ms. storeAll k (map (entryOf p) (picked (firstFour false (e .stored)) ms))) (e .monitors) (typed .monitors)
           (all-four p (mark 0) (mark 1) (mark 2) (mark 3) k (m 0) (m 1) (m 2) (m 3)))
 
-      -- and else each of the four that is marked is stored after it, "in monitor order", as `store_if` promises
-      pub carried-stored : {first second third fourth : List ℕ} → first ≡ storedOver now (one 0) → second ≡ storedOver first (one 1)
-          → third ≡ storedOver second (one 2) → fourth ≡ storedOver third (one 3)
-          → fourth ≡ laidOver ws (carriedOut (shelfOf ws) p (f (phyAt (shelfOf ws) p)))
-      carried-stored a b c d =
-          let s : Shelf = put (shelfOf ws) p (e .phy) count in
+      -- all of it
+      all-carried : let k : Store = shelfOf ws .store in
+          laidOver ws
+          (putStore (put (shelfOf ws) p (e .phy) count) (storeAll (storeAll (storeAll (storeAll k (one 0)) (one 1)) (one 2)) (one 3)))
+          ≡ laidOver ws (carriedOut (shelfOf ws) p e)
+      all-carried =
           let k : Store = shelfOf ws .store in
-          let laid-1 = laid-list ws s (laid-phy ws long p (e .phy) count is-now) (one 0) (one-low 0) a in
+          ap (λ l. laidOver ws (putStore (put (shelfOf ws) p (e .phy) count) l)) (four-stored k)
+          ∙ ap (λ n. laidOver ws (putStore (put (shelfOf ws) p (e .phy) n) (storeAll k (entriesOf p e)))) moved
+
+      -- and else each of the four that is marked is stored, "in monitor order", as `store_if` promises: after both are put ..
+      pub carried-stored : {now first second third fourth : List ℕ} → now ≡ laidOver ws (put (shelfOf ws) p (e .phy) count)
+          → first ≡ storedOver now (one 0) → second ≡ storedOver first (one 1) → third ≡ storedOver second (one 2)
+          → fourth ≡ storedOver third (one 3)
+          → fourth ≡ laidOver ws (carriedOut (shelfOf ws) p (f (phyAt (shelfOf ws) p)))
+      carried-stored is-now a b c d =
+          let laid-1 = laid-list ws _ (laid-phy ws long p (e .phy) count is-now) (one 0) (one-low 0) a in
           let laid-2 = laid-list ws _ laid-1 (one 1) (one-low 1) b in
           let laid-3 = laid-list ws _ laid-2 (one 2) (one-low 2) c in
+          rw (← read, ← made) (laid-list ws _ laid-3 (one 3) (one-low 3) d .words ∙ all-carried)
+
+      -- .. or before
+      pub stored-carried : {first second third fourth next : List ℕ} → first ≡ storedOver ws (one 0) → second ≡ storedOver first (one 1)
+          → third ≡ storedOver second (one 2) → fourth ≡ storedOver third (one 3)
+          → next ≡ laidOver fourth (put (shelfOf fourth) p (e .phy) count)
+          → next ≡ laidOver ws (carriedOut (shelfOf ws) p (f (phyAt (shelfOf ws) p)))
+      stored-carried a b c d is-next =
+          let laid-1 = laid-list ws _ (laid-nothing ws long) (one 0) (one-low 0) a in
+          let laid-2 = laid-list ws _ laid-1 (one 1) (one-low 1) b in
+          let laid-3 = laid-list ws _ laid-2 (one 2) (one-low 2) c in
+          let laid-4 = laid-list ws _ laid-3 (one 3) (one-low 3) d in
           rw (← read, ← made)
-          (laid-list ws _ laid-3 (one 3) (one-low 3) d .words
-          ∙ ap (λ l. laidOver ws (putStore s l)) (four-stored k)
-          ∙ ap (λ n. laidOver ws (putStore (put (shelfOf ws) p (e .phy) n) (storeAll k (entriesOf p e)))) moved)
+          (put-after ws long _ (laid-4 .store .entries-size) (laid-4 .words) p (e .phy) count is-next ∙ all-carried)

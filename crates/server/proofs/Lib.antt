@@ -3,6 +3,7 @@
 pub mod Numbers
 pub mod Answering
 pub mod Typed
+pub mod StoredFirst
 pub mod Carrying
 pub mod Handling
 -- Each public promise settles its outcome.

@@ -54,13 +54,13 @@ fn configure(words: &mut [u32; WORDS], frame: &[u8], clear: bool, phy: u8, d: u8
     let monitors = done.monitors;
     let stored = done.stored;
     let changes = changes_after(words, done.change);
-    put(words, phy as u32, after, changes);
     if clear {
         store_if(words, phy, stored[0], monitors[0]);
         store_if(words, phy, stored[1], monitors[1]);
         store_if(words, phy, stored[2], monitors[2]);
         store_if(words, phy, stored[3], monitors[3]);
     }
+    put(words, phy as u32, after, changes);
 }
 
 // 91h. "Response 4 bytes": the result, accepted or not.

@@ -72,10 +72,10 @@ returns-2 c =
       refl,
       carried-stored (a .words .now) (a .phy) (eventOn (a .source) (a .amount)) (read .phy-at .ensures) (made .event-on .ensures)
           (moved .changes-after .ensures)
-          (put .put .ensures)
           (long told)
           (let z : a .phy ≤ 0xFF = omega arith in z)
           (typed (made .event-on .result) (made .event-on .ok .1 .1 .1 .1))
+          (put .put .ensures)
           (first .store-if .ensures)
           (second .store-if2 .ensures)
           (third .store-if3 .ensures)
@@ -96,9 +96,9 @@ returns-3 c =
       refl,
       carried-unmarked (a .words .now) (a .phy) (eventOn (a .source) (a .amount)) (read .phy-at .ensures) (made .event-on .ensures)
           (moved .changes-after .ensures)
-          (put .put .ensures)
           (typed (made .event-on .result) (made .event-on .ok .1 .1 .1 .1))
-          (c .if1 .left),
+          (c .if1 .left)
+          (put .put .ensures),
     )
 
 pub event-spec : {M : Type 1} → statement M

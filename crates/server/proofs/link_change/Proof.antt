@@ -31,8 +31,8 @@ returns-2 c =
     rw (sym (there .before .there .ensures) ∙ not-false _ (there .if1 .left)) (
       refl,
       carried (a .words .now) (a .phy) linkChangeOn (read .phy-at .ensures) (made .change-on .ensures) (moved .changes-after .ensures)
-          (c .put .ensures)
-          (change-stores (shelfOf (a .words .now) .store) (a .phy) (phyAt (shelfOf (a .words .now)) (a .phy) .enabled) (phyAt (shelfOf (a .words .now)) (a .phy))),
+          (change-stores (shelfOf (a .words .now) .store) (a .phy) (phyAt (shelfOf (a .words .now)) (a .phy) .enabled) (phyAt (shelfOf (a .words .now)) (a .phy)))
+          (c .put .ensures),
     )
 
 pub link-change-spec : {M : Type 1} → statement M

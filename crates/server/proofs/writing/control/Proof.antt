@@ -15,8 +15,9 @@ returns c =
     let read = made .before in
     let a = read .before .before .args in
     let s = shelfOf (a .words .now) in
-    carried (a .words .now) (a .phy) (controlled (a .operation)) (read .phy-at .ensures) (made .controlled .ensures) (moved .changes-after .ensures) (c .put .ensures)
+    carried (a .words .now) (a .phy) (controlled (a .operation)) (read .phy-at .ensures) (made .controlled .ensures) (moved .changes-after .ensures)
     (controlled-stores (s .store) (a .phy) (a .operation) (phyAt s (a .phy)))
+    (c .put .ensures)
 
 pub control-spec : {M : Type 1} → statement M
 control-spec = tie.close (tie.spec (search needs) (search needs) (search needs) (search needs) returns)
