@@ -15,7 +15,8 @@ use Rattle.model.specs.Fits.{BytesFit, OperationFits, Sound, AllFit, StartFits}
 use Rattle.model.specs.History.{history}
 use Rattle.model.specs.Request.{functionOf}
 use Rattle.model.specs.Runs.{Operation, Ask, after, answers}
-use Rattle.model.proofs.Demands.Effects.{Controlled, Configured}
+use Rattle.model.proofs.Demands.Configured.{Configured}
+use Rattle.model.proofs.Demands.Controlled.{Controlled}
 use Rattle.model.proofs.Demands.EventList.{listFor}
 use Rattle.model.proofs.Demands.History.{IsHistory}
 use Rattle.model.proofs.Demands.Stored.{StoredTogether}

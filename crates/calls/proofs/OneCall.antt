@@ -12,7 +12,8 @@ use Rattle.model.specs.Fits.{BytesFit, OperationFits, Placed}
 use Rattle.model.specs.Request.{functionOf}
 use Rattle.model.specs.Runs.{Operation, Ask, Event, LinkChange, ReducedFunctionality, Ses, QueryReach, next}
 use Rattle.model.specs.Server.{served, lentAfter}
-use Rattle.model.proofs.Demands.Effects.{Controlled, Configured}
+use Rattle.model.proofs.Demands.Configured.{Configured}
+use Rattle.model.proofs.Demands.Controlled.{Controlled}
 use Rattle.model.proofs.Demands.EventList.{listFor, ListGiven, list-given}
 use Rattle.model.proofs.Demands.Invariant.{fits-placed}
 use Rattle.model.proofs.Demands.Refusals.{request-gives, event-gives, link-change-gives, query-gives}

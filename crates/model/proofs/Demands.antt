@@ -6,7 +6,8 @@
 pub mod Refusals
 pub mod Results
 pub mod Writes
-pub mod Effects
+pub mod Controlled
+pub mod Configured
 pub mod Events
 pub mod Fits
 pub mod Frames

@@ -24,7 +24,6 @@ use Rattle.model.specs.Shelf.{exists, phyAt, monitor, phyWith, freshMoni
 use Rattle.model.specs.Sources.{counting, peak, supported}
 use Rattle.model.specs.Store.{storeAll}
 use Rattle.model.specs.Tests.{within}
-use Rattle.model.proofs.Demands.Effects.{same-shelf}
 use Rattle.model.proofs.Demands.Fits.{Four}
 use Rattle.model.proofs.Demands.Invariant.{started-placed, phy-placed}
 use Rattle.model.proofs.Laws.Checks.{outcome-taken}
@@ -32,7 +31,7 @@ use Rattle.model.proofs.Laws.Places.{any-default}
 use Rattle.model.proofs.Laws.Tests.{is-true, is-false, within-iff, within-true, cond-by, cond-both}
 use Rattle.model.proofs.Plain.Counting.{add-error-length, Crossings, crossings-one, crossed-are}
 use Rattle.model.proofs.Plain.Reports.{event-done}
-use Rattle.model.proofs.Plain.Shelf.{OnlyPhy, put-same, put-only}
+use Rattle.model.proofs.Plain.Shelf.{OnlyPhy, same-shelf, put-same, put-only}
 use Rattle.model.proofs.Plain.Sources.{supported-iff, counting-not-peak}
 
 -- ---- what it says

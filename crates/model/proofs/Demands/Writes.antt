@@ -17,7 +17,8 @@ use Rattle.model.specs.Runs.{Started}
 use Rattle.model.specs.Server.{served, lentAfter}
 use Rattle.model.specs.Shelf.{exists}
 use Rattle.model.specs.Writes.{doing, effect}
-use Rattle.model.proofs.Demands.Effects.{Controlled, controlled-effect, Configured, configured-effect}
+use Rattle.model.proofs.Demands.Configured.{Configured, configured-effect}
+use Rattle.model.proofs.Demands.Controlled.{Controlled, controlled-effect}
 use Rattle.model.proofs.Demands.Invariant.{started-placed}
 use Rattle.model.proofs.Demands.Results.{Of, SourcesAllowed, NotRefused, countPasses, checks, verdict-accepted, result-byte}
 use Rattle.model.proofs.Demands.Results.{sources-iff, failed-result, granted-result}
