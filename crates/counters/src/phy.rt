@@ -3,7 +3,6 @@ use crate::counts::add_saturating;
 use crate::counts::add_wrapping;
 use crate::counts::originate;
 use crate::sources::peak;
-use crate::sources::within;
 use model::Effect;
 use model::Monitor;
 use model::Phy;
@@ -107,9 +106,12 @@ fn add_error(source: u32, amount: u32, errors: [u32; 4]) -> [u32; 4]
     ensures { λ r. ⌜ r ≡ addError source amount errors ⌝ }
 {
     let mut after = errors;
-    if within(0x01, 0x04, source) {
-        let i = (source - 1) as usize;
-        after[i] = add_saturating(errors[i], amount);
+    match source {
+        0x01..=0x04 => {
+            let i = (source - 1) as usize;
+            after[i] = add_saturating(errors[i], amount);
+        }
+        _ => {}
     }
     after
 }

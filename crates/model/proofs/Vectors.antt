@@ -8,6 +8,7 @@ use Rattle.model.specs.Vectors.CrossedOut.{crossed, stay, whole, rest}
 use Rattle.model.specs.Vectors.EasilyWrong.{easilyWrong1to4, easilyWrong5}
 use Rattle.model.specs.Vectors.Frames.{reads, controls, configures, ignored}
 use Rattle.model.specs.Vectors.Peaks.{peaks}
+use Rattle.model.specs.Vectors.Sources.{sources}
 use Rattle.model.specs.Vectors.Stored.{stored}
 use Rattle.model.specs.Vectors.Refusals.{refusals}
 use Rattle.model.specs.Vectors.Results.{results}
@@ -102,3 +103,8 @@ remains-hold = refl
 pub told-hold : (answers 8 shelfW mixed ≡ to8) × (answers 32 shelfW mixed ≡ to32)
 unfolding mixed to8 to32 computes
 told-hold = (refl, refl)
+
+pub sources-hold : Holds sources
+unfolding sources computes
+sources-hold =
+    (refl, (refl, (refl, (refl, tt))))

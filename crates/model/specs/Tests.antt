@@ -13,9 +13,14 @@ check false failure rest = failure
 abbrev pub given {ℓ} : {A : Type ℓ} → Bool → A → A → A
 given condition refusal rest = check (not condition) refusal rest
 
+-- m is at most n: a test that computes, where `≤` is the statement
+infix 50 _<=_
+abbrev pub _<=_ : ℕ → ℕ → Bool
+m <= n = leb m n
+
 -- n is one of the numbers from low to high
 abbrev pub within : ℕ → ℕ → ℕ → Bool
-within low high n = leb low n && leb n high
+within low high n = low <= n && n <= high
 
 -- n is one of those listed
 abbrev pub oneOf : List ℕ → ℕ → Bool

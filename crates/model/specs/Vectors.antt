@@ -8,6 +8,7 @@ pub mod Results
 pub mod Frames
 pub mod Stays
 pub mod Peaks
+pub mod Sources
 pub mod Stored
 pub mod CrossedOut
 pub mod Told
