@@ -106,12 +106,9 @@ fn add_error(source: u32, amount: u32, errors: [u32; 4]) -> [u32; 4]
     ensures { λ r. ⌜ r ≡ addError source amount errors ⌝ }
 {
     let mut after = errors;
-    match source {
-        0x01..=0x04 => {
-            let i = (source - 1) as usize;
-            after[i] = add_saturating(errors[i], amount);
-        }
-        _ => {}
+    if (0x01 <= source) & (source <= 0x04) {
+        let i = (source - 1) as usize;
+        after[i] = add_saturating(errors[i], amount);
     }
     after
 }

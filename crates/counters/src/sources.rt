@@ -7,20 +7,16 @@ ghost use Rattle.model.specs.Sources.{counting, peak, supported};
 pub fn counting(source: u32) -> bool
     ensures { λ r. ⌜ r ≡ counting source ⌝ }
 {
-    match source {
-        0x01..=0x06 | 0x20..=0x2A | 0x40..=0x45 => true,
-        _ => false,
-    }
+    (0x01 <= source) & (source <= 0x06)
+        | (0x20 <= source) & (source <= 0x2A)
+        | (0x40 <= source) & (source <= 0x45)
 }
 
 // "peak 2Bh to 2Eh"
 pub fn peak(source: u32) -> bool
     ensures { λ r. ⌜ r ≡ peak source ⌝ }
 {
-    match source {
-        0x2B..=0x2E => true,
-        _ => false,
-    }
+    (0x2B <= source) & (source <= 0x2E)
 }
 
 // "Supported sources": both kinds, and so not 00h

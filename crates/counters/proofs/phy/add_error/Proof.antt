@@ -1,36 +1,35 @@
 -- `counters::phy::add_error` meets its contract: the place of a source from 01h to 04h is one of the four. Assumes nothing.
 use borrow.Author.Needs.{needs}
-use Prim.Native.Nat.{ℕ, _≤_}
+use Prim.Native.Nat.{_≤_}
 use native.Mathlib.Omega.{arith}
-use mathlib.Core.Bool.{true, false}
-use mathlib.Core.Path.{_≡_}
 use Rattle.model.specs.Counting.{addError}
-use Rattle.model.specs.Tests.{within}
-use Rattle.model.proofs.Laws.Tests.{is-true, is-false, within-iff}
+use Rattle.model.proofs.Laws.Tests.{within-true}
 use Rattle.counters.proofs.phy.add_error.Statement.{statement}
 use Rattle.counters.proofs.phy.add_error.Tie as tie
 
-inside : (source : ℕ) → (0x01 ≤ source) × (source ≤ 0x04) → within 0x01 0x04 source ≡ true
-inside source both = is-true (within 0x01 0x04 source) (within-iff 0x01 0x04 source .1 both)
+in-range : (c : tie.Then1) → let source = c .before .args .source in (0x01 ≤ source) × (source ≤ 0x04)
+in-range c = within-true 0x01 0x04 _ (c .if1 .taken)
 
-outside : (source : ℕ) → ((0x01 ≤ source) × (source ≤ 0x04) → ⊥) → within 0x01 0x04 source ≡ false
-outside source not-both = is-false (within 0x01 0x04 source) (λ t. not-both (within-iff 0x01 0x04 source .0 t))
+sub-i : tie.Need-sub-i
+sub-i c = omega (arith, in-range c)
 
--- below the range, in it, above it
+array-read-add-saturating : tie.Need-array-read-add-saturating
+array-read-add-saturating c = omega (arith, in-range c)
+
+array-write-after : tie.Need-array-write-after
+array-write-after c = omega (arith, in-range (c .before))
+
 returns : tie.Need-returns
 unfolding addError
-returns c = rw (outside (c .before .args .source) (omega arith))
+returns c = rw (c .before .if1 .taken, c .add-saturating .ensures)
 
 returns-2 : tie.Need-returns-2
 unfolding addError
-returns-2 c = rw (inside (c .before .before .before .args .source) (omega arith), c .add-saturating .ensures)
-
-returns-3 : tie.Need-returns-3
-unfolding addError
-returns-3 c = rw (outside (c .before .before .args .source) (omega arith))
+returns-2 c = rw (c .if1 .left)
 
 pub add-error-spec : {M : Type 1} → statement M
 add-error-spec =
     tie.close
     (tie.spec
-    (search needs) (search needs) (search needs) (search needs) (search needs) (search needs) returns returns-2 returns-3)
+    sub-i (search needs) (search needs) array-read-add-saturating (search needs) (search needs) array-write-after
+    returns returns-2)
