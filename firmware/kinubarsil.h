@@ -140,7 +140,8 @@ uint32_t smp_start(struct smp_shelf *shelf, uint32_t number, const uint32_t grou
 uint32_t smp_serve(struct smp_shelf *shelf, uint32_t source, const uint8_t *frame, size_t size,
                    uint8_t *out, size_t room);
 
-/* An event report. Tells 0; or H7, H8 or H9. The numbers are taken whole, and not cut to 8 bits. */
+/* An event report. Tells 0; or H7, H8 or H9. The numbers are taken whole, and not cut to 8 bits.
+ * docs/SOURCES.md lists the event sources, with their T10 names and largest amounts. */
 uint32_t smp_event(struct smp_shelf *shelf, uint32_t phy, uint32_t source, uint32_t amount);
 
 /* A link change on a phy. Tells 0; or H7. */
