@@ -2,8 +2,6 @@
 # as it came. First file: sources.rt; second: what the program of cases wrote on the script of tests/sources/run, which has a heading for
 # each code and below it reports of 0, 5 and 3 (the descriptor comes before the 5, and the read after the 3), then of 255, 256, 65535,
 # 65536 and 4294967295.
-function digit(c) { return index("0123456789ABCDEF", c) - 1 }
-function number(code) { return 16 * digit(substr(code, 1, 1)) + digit(substr(code, 2, 1)) }
 BEGIN {
     here["00 done done done 00 00 00 08"] = "counting"
     here["00 done done done 00 00 00 05"] = "peak"

@@ -1,7 +1,5 @@
 # The rows of docs/SOURCES.md's first table, one line for each code: CODE|HERE|DECIDED BY|LARGEST AMOUNT. A row of several codes, as
 # '07h to 1Fh', gives a line for each.
-function digit(c) { return index("0123456789ABCDEF", c) - 1 }
-function number(code) { return 16 * digit(substr(code, 1, 1)) + digit(substr(code, 2, 1)) }
 BEGIN { FS = " *[|] *" }
 /^[|] [0-9A-F][0-9A-F]h / && NF == 7 {
     first = number($2)
