@@ -1,4 +1,5 @@
-//! The server under test, over its C interface (firmware/kinubarsil.h).
+//! The server under test, over its C interface (firmware/kinubarsil.h), and the frame judge
+//! (firmware/smp_gate.h).
 
 use crate::words::ShelfWords;
 
@@ -22,6 +23,7 @@ extern "C" {
     fn smp_link_change(shelf: *mut ShelfWords, phy: u32) -> u32;
     fn smp_notice(shelf: *mut ShelfWords, ses: bool) -> u32;
     fn smp_reach(shelf: *const ShelfWords, source: u32) -> u32;
+    fn smp_judge_frame(frame: *const u8, size: usize) -> u32;
 }
 
 // SAFETY of all calls below: references are not null, aligned and set in full; what is lent for
@@ -55,4 +57,8 @@ pub fn notice(shelf: &mut ShelfWords, ses: bool) -> u32 {
 
 pub fn reach(shelf: &ShelfWords, source: u32) -> u32 {
     unsafe { smp_reach(shelf, source) }
+}
+
+pub fn judge(frame: &[u8]) -> u32 {
+    unsafe { smp_judge_frame(frame.as_ptr(), frame.len()) }
 }

@@ -240,10 +240,11 @@ fn configure(random: &mut Random, shelf: &Shelf, frame: &mut [u8], d: usize) {
     }
 }
 
-/// Spoils a frame: a byte changed, cut, made longer, or another frame altogether.
+/// Spoils a frame: a byte changed, cut, made longer, another first byte, or another frame
+/// altogether.
 fn damage(random: &mut Random, frame: &mut Vec<u8>) {
     let size = frame.len() as u32;
-    match random.below(20) {
+    match random.below(25) {
         0..=6 => {
             let near = random.chance(70);
             let place = random.below(if near { size.min(12) } else { size }) as usize;
@@ -261,7 +262,14 @@ fn damage(random: &mut Random, frame: &mut Vec<u8>) {
             frame.resize(random.below(64) as usize, 0);
             random.fill(frame);
         }
-        18 => {
+        // #103: no request by its first byte alone; of an unknown function too, and cut too
+        18..=20 => frame[0] = first_byte(random),
+        21 => (frame[0], frame[1]) = (first_byte(random), random.word() as u8),
+        22 => {
+            frame[0] = first_byte(random);
+            frame.truncate(random.below(5) as usize);
+        }
+        23 => {
             let long = random.chance(20);
             frame.resize(random.below(if long { 1200 } else { 100 }) as usize + 4, 0x55);
         }
@@ -271,5 +279,14 @@ fn damage(random: &mut Random, frame: &mut Vec<u8>) {
             frame[0] = 0x40;
             frame[1] = random.pick(&FUNCTIONS);
         }
+    }
+}
+
+/// A first byte, most often that of a response, or one that differs from 40h in a single bit.
+fn first_byte(random: &mut Random) -> u8 {
+    match random.below(4) {
+        0 | 1 => 0x41,
+        2 => 0x40 ^ 1 << random.below(8),
+        _ => random.word() as u8,
     }
 }

@@ -4,7 +4,7 @@ use crate::host;
 use crate::operations::{Fill, Operation};
 use crate::random::Random;
 use crate::told;
-use crate::twin::Shelf;
+use crate::twin::{self, Shelf};
 use crate::words::ShelfWords;
 
 /// The longest buffer that is lent, and bytes past it that nobody may touch.
@@ -25,8 +25,21 @@ struct Memory {
 #[derive(Clone, Copy)]
 pub enum Place {
     Answer,
-    Buffer { at: usize, host: u8, twin: u8 },
-    Word { at: usize, host: u32, twin: u32 },
+    /// What is told of the request's frame alone.
+    Judge {
+        host: u32,
+        twin: u32,
+    },
+    Buffer {
+        at: usize,
+        host: u8,
+        twin: u8,
+    },
+    Word {
+        at: usize,
+        host: u32,
+        twin: u32,
+    },
     OutsideShelf,
 }
 
@@ -106,6 +119,13 @@ impl Pair {
             }
         };
         self.expected.lay(&self.twin);
+        if let Operation::Serve { frame, .. } = operation {
+            let told = (host::judge(frame), told::judgement(twin::judge(frame)));
+            if told.0 != told.1 {
+                let place = Place::Judge { host: told.0, twin: told.1 };
+                return Err(Difference { host, twin, place });
+            }
+        }
         self.compare(host, twin)
     }
 

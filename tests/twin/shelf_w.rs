@@ -212,6 +212,38 @@ fn wrong_5_unreached_phys_in_06h() {
     assert_eq!((response[8], response[16], response.len()), (2, 3, 24));
 }
 
+/// #103: "H6 keeps the first meaning", and "H10, first byte not 40h, takes its turn directly after H6
+/// and before any function result"
+#[test]
+fn a_cut_frame_is_told_from_a_wrong_one() {
+    let mut shelf = shelf_w();
+    // an unknown function, a wrong length, a read, and a clear on a phy that 8 reaches
+    let clear = [0x93, 0, 2, 0, 0, 1, 0, 0, 0, 0, 0];
+    let rests = [&[0x02, 0, 0], &[0x14, 0, 2], &[0x00, 0, 0], &clear[..]];
+    for first in (0..=0xFF).filter(|&first| first != 0x40) {
+        for size in 0..=3 {
+            assert_eq!(serve(&mut shelf, 8, &[first, 0x02, 0][..size]), Err(H6));
+        }
+        for rest in rests {
+            let frame = [&[first], rest].concat();
+            assert_eq!(serve(&mut shelf, 8, &frame), Err(H10));
+            let wrong = Some(Wrong::House(H10));
+            assert_eq!(judge(&frame), Judgement { function: Some(rest[0]), wrong });
+        }
+    }
+    let wrong = Some(Wrong::House(H6));
+    assert_eq!(judge(&[0x41, 0x14, 0x16]), Judgement { function: None, wrong });
+    let results = rests.map(|rest| judge(&[&[0x40], rest].concat()).wrong);
+    let [unknown, length] = [0x01, 0x03].map(|result| Some(Wrong::Result(result)));
+    assert_eq!(results, [unknown, length, None, None]);
+    // H4, then H5, then H6 or H10
+    let mut out = [0; 1028];
+    assert_eq!(shelf.serve(32, &[0x41, 0, 0, 0], &mut out[..1027]), Err(H4));
+    assert_eq!(shelf.serve(31, &[0x41, 0, 0, 0], &mut out[..1027]), Err(H5));
+    assert_eq!(shelf.serve(31, &[0x41, 0, 0, 0], &mut out), Err(H10));
+    assert_eq!((shelf, out), (shelf_w(), [0; 1028]));
+}
+
 #[test]
 fn starts_are_refused_by_the_lowest_number() {
     let (mut groups, table, identifier) = parts();

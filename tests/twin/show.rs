@@ -124,6 +124,9 @@ pub fn difference(last: &Operation, difference: &Difference) -> String {
     let answers = format!("server: {}; twin: {}", answer(last, host), answer(last, twin));
     let place = match place {
         Place::Answer => "the answers differ".into(),
+        Place::Judge { host, twin } => {
+            format!("the frame judge: server {host:08X}h, twin {twin:08X}h")
+        }
         Place::Buffer { at, host, twin } => {
             format!("buffer byte {at}: server {host:02X}h, twin {twin:02X}h")
         }

@@ -1,5 +1,5 @@
-//! The twin behind the C interface of the server (firmware/kinubarsil.h). It stands in for the
-//! server's archive where the driver's own power to notice is tried: built with a planted fault, it
+//! The twin behind the C interface of the server (firmware/kinubarsil.h) and of the frame judge
+//! (firmware/smp_gate.h). It stands in for their archives where the driver's own power to notice is tried: built with a planted fault, it
 //! has to be told from the right twin. Built as `libhost.a`, and never shipped.
 
 use std::slice;
@@ -83,6 +83,13 @@ pub unsafe extern "C" fn smp_notice(shelf: *mut ShelfWords, ses: bool) -> u32 {
 #[no_mangle]
 pub unsafe extern "C" fn smp_reach(shelf: *const ShelfWords, source: u32) -> u32 {
     told::reach((*shelf).read().reach(source))
+}
+
+/// # Safety
+/// As firmware/smp_gate.h asks of C.
+#[no_mangle]
+pub unsafe extern "C" fn smp_judge_frame(frame: *const u8, size: usize) -> u32 {
+    told::judgement(twin::judge(slice::from_raw_parts(frame, size)))
 }
 
 /// Reads the words, lets the twin change the shelf, and lays it back.

@@ -2,7 +2,7 @@
 //! `ENOUGH` operations in which some kind of answer never occurred has failed.
 
 use crate::operations::Operation;
-use crate::twin::{is_counting, is_peak, Phy, Shelf, Store};
+use crate::twin::{self, is_counting, is_peak, Phy, Shelf, Store, Wrong};
 
 pub const ENOUGH: u64 = 200_000;
 
@@ -37,6 +37,13 @@ marks! {
     Reach "reach queries answered",
     H4Serve "H4 to a request",
     H4Reach "H4 to a reach query",
+    H6Right "H6 to a frame that begins with 40h",
+    H6Wrong "H6 to one that does not",
+    H10Response "H10 to 41h",
+    H10Other "H10 to another first byte",
+    H10Unknown "H10 to an unknown function",
+    H10Length "H10 to a wrong length",
+    H10Alone "H10 to a frame with nothing else wrong",
     H7Event "H7 to an event report",
     H7LinkChange "H7 to a link change",
     Unknown "01h",
@@ -107,14 +114,14 @@ const REPORTS: [Mark; 4] = [Mark::Report1, Mark::Report2, Mark::Report3, Mark::R
 const CLEARS: [Mark; 4] = [Mark::Clear1, Mark::Clear2, Mark::Clear3, Mark::Clear4];
 
 pub struct Tally {
-    refusals: [u64; 10],
+    refusals: [u64; 11],
     results: [[u64; 0x22]; 8],
     marks: [u64; MARKS.len()],
 }
 
 impl Tally {
     pub fn new() -> Tally {
-        Tally { refusals: [0; 10], results: [[0; 0x22]; 8], marks: [0; MARKS.len()] }
+        Tally { refusals: [0; 11], results: [[0; 0x22]; 8], marks: [0; MARKS.len()] }
     }
 
     fn mark(&mut self, mark: Mark, occurred: bool) {
@@ -141,6 +148,9 @@ impl Tally {
             let link_change = matches!(operation, Operation::LinkChange { .. });
             self.mark(Mark::H7LinkChange, told & 0xF == 7 && link_change);
             self.mark(Mark::RefusedH9, told & 0xF == 9 && would_cross(operation, before));
+            if let Operation::Serve { frame, .. } = operation {
+                self.no_request(told & 0xF, frame);
+            }
             return;
         }
         match operation {
@@ -165,6 +175,23 @@ impl Tally {
         }
         self.counts(about(operation), before, after);
         self.stored(is_request(operation), &before.store, &after.store);
+    }
+
+    /// H6 and H10: what else was wrong with the frame.
+    fn no_request(&mut self, refusal: u32, frame: &[u8]) {
+        if refusal == 6 {
+            let right = frame.first() == Some(&0x40);
+            self.mark(if right { Mark::H6Right } else { Mark::H6Wrong }, !frame.is_empty());
+        }
+        if refusal == 10 {
+            let mut request = frame.to_vec();
+            request[0] = 0x40;
+            let wrong = twin::judge(&request).wrong;
+            self.mark(if frame[0] == 0x41 { Mark::H10Response } else { Mark::H10Other }, true);
+            self.mark(Mark::H10Unknown, wrong == Some(Wrong::Result(0x01)));
+            self.mark(Mark::H10Length, wrong == Some(Wrong::Result(0x03)));
+            self.mark(Mark::H10Alone, wrong.is_none());
+        }
     }
 
     fn response(&mut self, frame: &[u8], out: &[u8], before: &Shelf, after: &Shelf) {
@@ -314,7 +341,8 @@ impl Tally {
             let counts: Vec<String> = counts.collect();
             lines.push(format!("{:02X}h: {}", FUNCTIONS[row], counts.join(", ")));
         }
-        let refusals: Vec<String> = (1..=9).map(|h| format!("H{h} {}", self.refusals[h])).collect();
+        let refusals: Vec<String> =
+            (1..=10).map(|h| format!("H{h} {}", self.refusals[h])).collect();
         lines.push(refusals.join(", "));
         let marks = MARKS.iter().zip(self.marks).map(|(name, count)| format!("{name} {count}"));
         let marks: Vec<String> = marks.collect();
@@ -331,7 +359,7 @@ impl Tally {
             missing
                 .extend(none.map(|result| format!("{:02X}h with {result:02X}h", FUNCTIONS[row])));
         }
-        missing.extend((1..=9).filter(|&h| self.refusals[h] == 0).map(|h| format!("H{h}")));
+        missing.extend((1..=10).filter(|&h| self.refusals[h] == 0).map(|h| format!("H{h}")));
         let marks = MARKS.iter().zip(self.marks);
         missing.extend(marks.filter(|(_, count)| *count == 0).map(|(name, _)| name.to_string()));
         missing

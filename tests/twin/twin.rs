@@ -1,4 +1,4 @@
-//! A second reading of document 01, and of document 02's #101, written in plain Rust without
+//! A second reading of document 01, and of document 02's #101 and #103, written in plain Rust without
 //! looking at the shelf server Kinubarsil itself: a twin that `drive.rs` runs beside it, and the
 //! baseline of `tests/bench`.
 //!
@@ -8,10 +8,12 @@
 #![forbid(unsafe_code)]
 
 mod functions;
+mod judge;
 #[cfg(test)]
 mod shelf_w;
 mod store;
 
+pub use judge::{judge, Judgement, Wrong};
 pub use store::{Entry, Store};
 
 /// "1 to 24 phys, numbered from 0."
@@ -34,6 +36,7 @@ pub const H6: u32 = 6;
 pub const H7: u32 = 7;
 pub const H8: u32 = 8;
 pub const H9: u32 = 9;
+pub const H10: u32 = 10;
 
 /// SMP functions.
 pub const REPORT_GENERAL: u8 = 0x00;
@@ -145,6 +148,23 @@ fn accepted<const N: usize>(out: &mut Buffer, function: u8) -> &mut [u8; N] {
 fn failed(out: &mut Buffer, function: u8, result: u8) -> usize {
     out[..4].copy_from_slice(&[0x41, function, result, 0x00]);
     4
+}
+
+/// The function of a request, if the frame is one. H6 is for a request under 4 bytes, and "H10,
+/// first byte not 40h, takes its turn directly after H6 and before any function result" (#103).
+fn function_of(frame: &[u8]) -> Result<u8, u32> {
+    if cfg!(fault = "first_byte_before_size") && frame.first().is_some_and(|&first| first != 0x40) {
+        return Err(H10);
+    }
+    let &[first, function, _, _, ..] = frame else {
+        return Err(H6);
+    };
+    let late = cfg!(fault = "first_byte_after_01h") && !judge::is_known(function);
+    let other = cfg!(fault = "other_first_bytes_pass") && first != 0x41;
+    if first == 0x40 || late || other {
+        return Ok(function);
+    }
+    Err(if cfg!(fault = "one_number_for_both") { H6 } else { H10 })
 }
 
 /// "03h INVALID REQUEST FRAME LENGTH: byte 3 or the frame's true length is not as below."
@@ -322,14 +342,12 @@ impl Shelf {
         })
     }
 
-    /// One request. The length of the response, or H4, H5 or H6, the lowest that applies. "The
+    /// One request. The length of the response, or H4, H5, H6 or H10, the lowest that applies. "The
     /// buffer past any response is unchanged."
     pub fn serve(&mut self, source: u32, frame: &[u8], out: &mut [u8]) -> Result<usize, u32> {
         let row = *self.table.get(source as usize).ok_or(H4)?;
         let out = out.first_chunk_mut::<ROOM>().ok_or(H5)?;
-        let &[0x40, function, _, _, ..] = frame else {
-            return Err(H6);
-        };
+        let function = function_of(frame)?;
         let answer = match function {
             REPORT_GENERAL => self.report_general(frame, out),
             REPORT_MANUFACTURER_INFORMATION => self.report_manufacturer_information(frame, out),
