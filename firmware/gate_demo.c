@@ -1,6 +1,7 @@
 /* Shows the two parts that need no device on good, cut and wrong frames, and on rows.
  *
- * gate_demo.expected has what document 01, and document 02's #101 for function 21h, say of each.
+ * gate_demo.expected has what document 01, and document 02's #101 for function 21h and #103 for H10,
+ * say of each.
  * firmware/run builds this program, runs it and compares.
  */
 #include "smp_gate.h"
@@ -57,6 +58,9 @@ int main(void)
     static const uint8_t error_log[] = {0x40, 0x11, 0, 0x02, 0, 0, 0, 0, 0, 4, 0, 0};
     static const uint8_t error_log_00[] = {0x40, 0x11, 0, 0x00, 0, 0, 0, 0, 0, 0, 0, 0};
     static const uint8_t response[] = {0x41, 0x14, 0x16, 0x00};
+    static const uint8_t unknown_response[] = {0x41, 0x02, 0x01, 0x00};
+    static const uint8_t phy_event_c0[] = {0xC0, 0x14, 0, 0x02, 0, 0, 0, 0, 0, 2, 0, 0};
+    static const uint8_t zeros[39] = {0};
     static const uint8_t manufacturer[] = {0x40, 0x01, 0x00, 0x00};
     static const uint8_t broadcast[] = {0x40, 0x06, 0x04, 0x00};
     static const uint8_t event_list[12] = {0x40, 0x21, 0, 0x01, 0, 0, 0x00, 0x01};
@@ -82,6 +86,7 @@ int main(void)
     puts("Cut frames.");
     judge("nothing", general, 0);
     judge("three bytes, case 6", unknown, 3);
+    judge("three bytes of a response", response, 3);
     judge("REPORT PHY EVENT of 11 bytes", phy_event, 11);
     judge("REPORT PHY EVENT LIST of 7 bytes", event_list, 7);
     judge("PHY CONTROL of 39 bytes", control, 39);
@@ -91,6 +96,9 @@ int main(void)
     puts("Wrong frames.");
     judge("function 02h, case 6", unknown, sizeof unknown);
     judge("a response fed back", response, sizeof response);
+    judge("a response of function 02h", unknown_response, sizeof unknown_response);
+    judge("REPORT PHY EVENT but for the first byte, which is C0h", phy_event_c0, sizeof phy_event_c0);
+    judge("39 bytes of 00h", zeros, sizeof zeros);
     judge("REPORT PHY EVENT with length 00h, case 3", phy_event_00, sizeof phy_event_00);
     judge("REPORT PHY EVENT LIST with length 00h", event_list_00, sizeof event_list_00);
     judge("REPORT PHY EVENT LIST of 12 bytes", event_list, sizeof event_list);

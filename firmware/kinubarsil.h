@@ -108,9 +108,11 @@ SMP_STATIC_ASSERT(sizeof(struct smp_shelf) == 4 * 678, "a shelf is 678 words");
  *   - nobody else changes any of it, or reads what is lent for writing, during the call.
  *
  * Every answer is one number. Bit 31 says that it is a house refusal, and the low bits then are its
- * number, 1 to 9 for H1 to H9; a house refusal leaves the shelf and the buffer as they were. Where
+ * number, 1 to 10 for H1 to H10; a house refusal leaves the shelf and the buffer as they were. Where
  * bit 31 is not set, the number is what the function's own comment says. The definition is in
  * crates/host/specs/Told.antt.
+ *
+ * smp_refusal tells the number of the refusal, 1 to 10, and 0 where there is none.
  */
 static inline bool smp_refused(uint32_t told) { return told >> 31 == 1; }
 static inline uint32_t smp_refusal(uint32_t told) { return smp_refused(told) ? told & 0xF : 0; }
@@ -128,8 +130,9 @@ uint32_t smp_start(struct smp_shelf *shelf, uint32_t number, const uint32_t grou
                    const uint32_t table[32], const uint8_t identifier[8]);
 
 /* One request. Tells the length of the response, which is 4 to 400, with the response in the first
- * bytes of `out`, the bytes past it unchanged, and the shelf as the request left it; or H4, H5 or
- * H6. A failed function result is a response too, of 4 bytes.
+ * bytes of `out`, the bytes past it unchanged, and the shelf as the request left it; or H4, H5, H6
+ * or H10. H6 is a frame of under 4 bytes; H10 is one of 4 or more whose first byte is not 40h, such as
+ * a response fed back (#103). A failed function result is a response too, of 4 bytes.
  *
  * source      the zone group that the request comes from
  * frame       the request's bytes as they came from the link layer, without CRC

@@ -6,8 +6,8 @@
  * At the end stands whether any word of the shelf is another than before.
  *
  * shelf_day.expected was worked out from what document 01, and document 02's #101 for the list of
- * stored peak events, say; it stands at each step. firmware/run builds this program, runs it and
- * compares.
+ * stored peak events and #103 for H10, say; it stands at each step. firmware/run builds this program,
+ * runs it and compares.
  */
 #include "kinubarsil.h"
 #include "smp_gate.h"
@@ -249,18 +249,32 @@ static void stored(void)
     ASK(A, "the list, length 00h", 0x40, 0x21, 0, 0x00, 0, 0, 0, 1);
 }
 
+/* A frame that is no request, and what the judge of smp_gate.h, which needs no shelf, says of it: the
+ * same. */
+static void no_request(const char *what, const uint8_t *frame, size_t size)
+{
+    request(B, what, frame, size, sizeof response);
+    printf("the judge alone: H%u\n", (unsigned)smp_told_house(smp_judge_frame(frame, size)));
+}
+
 static void bad_frames(void)
 {
     const uint8_t cut[3] = {0x40, 0x14, 0x00};
+    const uint8_t fed_back[4] = {0x41, 0x14, 0x16, 0x00};
     puts("Frames that can't be answered, and frames that fail.");
-    request(B, "cut to 3 bytes", cut, 3, sizeof response); /* H6: "under 4 bytes" */
-    /* The judge of smp_gate.h, which needs no shelf, says the same. */
-    printf("the judge alone: H%u\n", (unsigned)smp_told_house(smp_judge_frame(cut, 3)));
-    ASK(B, "a response", 0x41, 0x14, 0x16, 0);        /* H6: "first byte not 40h" */
+    /* #103, "Tell a cut frame from a wrong one": H6 is "under 4 bytes", and H10 "first byte not 40h",
+     * "directly after H6 and before any function result". */
+    no_request("cut to 3 bytes", cut, 3);
+    no_request("a response fed back", fed_back, 4);
+    no_request("the same, cut to 3 bytes", fed_back, 3);
+    ASK(B, "a response to function 02h", 0x41, 0x02, 0x01, 0); /* H10, and not 01h */
+    /* With 40h it would be accepted: B reaches phy 2, 0000h passes, and a peak is watched. */
+    ASK(B, "clears phy 2, with 41h", 0x41, 0x93, 0, 0x02, 0, 0, 0x01, 0, 0, 2, 0, 0);
     ASK(nobody, "looks at the shelf", 0x40, 0, 0, 0); /* H4: "source group above 31" */
     /* H5: "response buffer shorter than 1,028 bytes" */
     request(desk, "1,027 bytes for the response", (uint8_t[]){0x40, 0, 0, 0}, 4, 1027);
     request(nobody, "all three", cut, 3, 1027); /* the lowest of H4, H5 and H6 */
+    request(desk, "1,027 bytes, for a response fed back", fed_back, 4, 1027); /* the lower of H5 and H10 */
     /* 03h: the true length is not 12 bytes. */
     ASK(B, "reads phy 2, cut to 11 bytes", 0x40, 0x14, 0, 2, 0, 0, 0, 0, 0, 2, 0);
     ASK(B, "a function 02h", 0x40, 0x02, 0, 0); /* 01h UNKNOWN SMP FUNCTION */

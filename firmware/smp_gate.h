@@ -20,8 +20,10 @@
 extern "C" {
 #endif
 
-/* Judges one request frame, without CRC: the function, and H6, 01h, 03h or nothing wrong. The known
- * functions are 00h, 01h, 06h, 11h, 14h, 21h, 91h and 93h; every other one draws 01h.
+/* Judges one request frame, without CRC: the function, and H6, H10, 01h, 03h or nothing wrong. H6 is a
+ * frame of under four bytes; H10 is one of four or more whose first byte is not 40h, such as a response
+ * fed back, whatever else is wrong with it (#103). The known functions are 00h, 01h, 06h, 11h, 14h,
+ * 21h, 91h and 93h; every other one draws 01h.
  *
  * frame   the bytes as they came from the link layer. What C owes: it is not NULL, not even where
  *         size is 0; `size` bytes from it on are readable and have been set; and nobody changes
@@ -40,13 +42,15 @@ static inline uint8_t smp_told_function(uint32_t told) { return (uint8_t)(told &
  * REQUEST FRAME LENGTH; 00h where it draws neither. */
 static inline uint8_t smp_told_result(uint32_t told) { return (uint8_t)(told >> 8 & 0xFF); }
 
-/* Bits 16 to 23: the number of the house refusal that the frame draws, 6 for H6; 0 where none. */
+/* Bits 16 to 23: the number of the house refusal that the frame draws, 6 for H6 or 10 for H10; 0 where
+ * it draws neither. It can be no other number (house-read in crates/gate/proofs/Parts.antt). */
 static inline uint8_t smp_told_house(uint32_t told) { return (uint8_t)(told >> 16 & 0xFF); }
 
-/* Bits 24 to 31: whether there is a function to tell. A frame under four bytes has none. */
+/* Bits 24 to 31: whether there is a function to tell. A frame under four bytes, H6, has none; a frame
+ * that draws H10 has one. */
 static inline bool smp_told_has_function(uint32_t told) { return told >> 24 == 1; }
 
-/* Nothing wrong: none of H6, 01h and 03h. The server may still refuse the request or fail it, for
+/* Nothing wrong: none of H6, H10, 01h and 03h. The server may still refuse the request or fail it, for
  * where it comes from and for what it sees in the shelf. */
 static inline bool smp_told_nothing_wrong(uint32_t told) { return (told & 0x00FFFF00) == 0; }
 

@@ -17,10 +17,10 @@ pub enum Call {
 
 /// Every stream.
 #[rustfmt::skip]
-pub const NAMES: [&str; 33] = [
+pub const NAMES: [&str; 34] = [
     "start", "00", "01", "06", "11", "14", "21", "21newest", "91", "93", "93set", "93none", "event",
     "counting", "crossing", "below", "link_change", "notice", "reach", "mixed",
-    "h4", "h5", "h6", "result01", "result03", "result21", "result04", "result10", "result16",
+    "h4", "h5", "h6", "h10", "result01", "result03", "result21", "result04", "result10", "result16",
     "result20", "result13", "result02", "result17",
 ];
 
@@ -174,8 +174,8 @@ fn refused(name: &str, i: u32) -> Option<Call> {
     Some(match name {
         "h4" => request(32 + i, about(0x14, 0)),
         "h5" => Call::Serve { source: 1, frame: about(0x14, 0), room: 1027 },
-        "h6" if i % 2 == 0 => request(1, vec![0x40, 0x14, 0]),
-        "h6" => request(1, vec![0x41, 0x14, 0, 2]),
+        "h6" => request(1, vec![0x40, 0x14, 0]),
+        "h10" => request(1, vec![0x41, 0x14, 0, 2]),
         _ => return None,
     })
 }
@@ -204,11 +204,11 @@ fn failed(name: &str, phy: u32, phys: u32) -> Option<Call> {
 /// failed ones, 10 refused ones and 50 reports and queries (events 36, link changes 8, notices 2,
 /// reach 4).
 #[rustfmt::skip]
-const SHARES: [(&str, u32); 23] = [
+const SHARES: [(&str, u32); 24] = [
     ("00", 16), ("01", 4), ("06", 36), ("11", 40), ("14", 40), ("91", 12), ("93", 12),
     ("result01", 2), ("result03", 3), ("result04", 3), ("result10", 3), ("result16", 3),
     ("result20", 2), ("result13", 1), ("result02", 1), ("result17", 2),
-    ("h4", 4), ("h5", 2), ("h6", 4),
+    ("h4", 4), ("h5", 2), ("h6", 2), ("h10", 2),
     ("event", 36), ("link_change", 8), ("notice", 2), ("reach", 4),
 ];
 

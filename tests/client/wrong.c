@@ -11,7 +11,7 @@
 #include <stdlib.h>
 #include <string.h>
 
-enum { FRAME_ROOM = 2048, REFUSED_H6 = 0x6 };
+enum { FRAME_ROOM = 2048, REFUSED_H6 = 0x6, REFUSED_H10 = 0xA };
 enum { GENERAL = 0x00, BROADCAST = 0x06, ERROR_LOG = 0x11, PHY_EVENT = 0x14, EVENT_LIST = 0x21 };
 enum { CONTROL = 0x91, CONFIGURE = 0x93 };
 
@@ -67,7 +67,8 @@ static uint32_t as_the_desk(struct asked *a, bool when)
 }
 
 /* The useless servers of document 01. */
-static uint32_t refuses_everything(struct asked *a) { (void)a; return 1u << 31 | REFUSED_H6; }
+static uint32_t refused(uint32_t number) { return 1u << 31 | number; }
+static uint32_t refuses_everything(struct asked *a) { (void)a; return refused(REFUSED_H6); }
 static uint32_t one_constant_frame(struct asked *a) { a->frame[1] = GENERAL; return failed(a, 0); }
 static uint32_t only_says_yes(struct asked *a) { return failed(a, 0); }
 
@@ -89,6 +90,41 @@ static uint32_t resets_for_strangers(struct asked *a) { return as_the_desk(a, as
 static uint32_t vacant_to_writers(struct asked *a) { return swapped(a, writes(a), 0x20, 0x16); }
 static uint32_t violated_by_readers(struct asked *a) { return swapped(a, !writes(a), 0x16, 0x20); }
 static uint32_t cuts_the_group(struct asked *a) { a->source &= 31; return truth(a); }
+
+/* A cut frame and a wrong one. */
+static bool begins_otherwise(const struct asked *a) { return a->size > 0 && a->frame[0] != 0x40; }
+
+/* Takes the frame for a request where it is none. */
+static uint32_t overlooked(struct asked *a, bool when)
+{
+    if (when && begins_otherwise(a))
+        a->frame[0] = 0x40;
+    return truth(a);
+}
+
+static uint32_t takes_any_first_byte(struct asked *a) { return overlooked(a, true); }
+static uint32_t refuses_responses_alone(struct asked *a) { return overlooked(a, a->frame[0] != 0x41); }
+
+static uint32_t one_number_for_both(struct asked *a)
+{
+    uint32_t told = truth(a);
+    return smp_refusal(told) == REFUSED_H10 ? refused(REFUSED_H6) : told;
+}
+
+static uint32_t first_byte_before_size(struct asked *a)
+{
+    return begins_otherwise(a) && a->size < 4 && a->source < 32 ? refused(REFUSED_H10) : truth(a);
+}
+
+/* Tries whether the function is known, which a copy of the shelf is enough for. */
+static uint32_t first_byte_after_the_function(struct asked *a)
+{
+    struct asked tried = *a;
+    struct smp_shelf copy = *a->shelf;
+    tried.shelf = &copy;
+    uint32_t told = takes_any_first_byte(&tried);
+    return !smp_refused(told) && a->out[2] == 0x01 ? told : truth(a);
+}
 
 /* The change count. */
 static uint32_t takes_any_count(struct asked *a)
@@ -451,6 +487,11 @@ static const struct {
     {"vacant_to_writers", vacant_to_writers},
     {"violated_by_readers", violated_by_readers},
     {"cuts_the_group", cuts_the_group},
+    {"takes_any_first_byte", takes_any_first_byte},
+    {"refuses_responses_alone", refuses_responses_alone},
+    {"one_number_for_both", one_number_for_both},
+    {"first_byte_before_size", first_byte_before_size},
+    {"first_byte_after_the_function", first_byte_after_the_function},
     {"takes_any_count", takes_any_count},
     {"takes_no_force", takes_no_force},
     {"reach_before_count", reach_before_count},

@@ -1,5 +1,5 @@
--- What firmware/kinubarsil.h says of every answer: "Bit 31 says that it is a house refusal, and the low bits then are its number, 1 to 9
--- for H1 to H9; a house refusal leaves the shelf and the buffer as they were." Which number it is say `call-refusal` and `start-refusal`
+-- What firmware/kinubarsil.h says of every answer: "Bit 31 says that it is a house refusal, and the low bits then are its number, 1 to 10
+-- for H1 to H10; a house refusal leaves the shelf and the buffer as they were." Which number it is say `call-refusal` and `start-refusal`
 -- of `Joined`. Assumes nothing.
 use Prim.Native.Nat.{ℕ, _≤_}
 use mathlib.Core.Path.{_≡_, subst⁻¹}

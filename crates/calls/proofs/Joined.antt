@@ -5,8 +5,9 @@
 -- Nothing is asked of them but what the types say, since the numbers here have no width: a shelf's memory is `shelfWords` words of 32 bits
 -- (`Memory`; where their number is enough, `length .. ≡ shelfWords`), a frame is bytes and an amount has 32 bits (`AllFit`, `BytesFit`), a
 -- start is given 32 rows of 32 bits and 8 bytes (`StartFits`). `Widths` has these from the toolchain's own types. Assumes nothing.
-use Prim.Native.Nat.{ℕ, _≤_}
+use Prim.Native.Nat.{ℕ, _≤_, _<_}
 use mathlib.Core.Path.{_≡_, refl, ap₂, subst}
+use mathlib.Core.Logic.{_↔_}
 use mathlib.Core.List.{List, [], _∷_, map}
 use lib.ListN.{length}
 use Rattle.model.specs.Bytes.{byte}
@@ -15,24 +16,26 @@ use Rattle.model.specs.Fits.{BytesFit, OperationFits, Sound, AllFit, StartFits}
 use Rattle.model.specs.History.{history}
 use Rattle.model.specs.Request.{functionOf}
 use Rattle.model.specs.Runs.{Operation, Ask, after, answers}
+use Rattle.model.specs.Server.{leastBuffer}
 use Rattle.model.proofs.Demands.Configured.{Configured}
 use Rattle.model.proofs.Demands.Controlled.{Controlled}
 use Rattle.model.proofs.Demands.EventList.{listFor}
 use Rattle.model.proofs.Demands.History.{IsHistory}
 use Rattle.model.proofs.Demands.Stored.{StoredTogether}
-use Rattle.model.proofs.Demands.Strangers.{listCode}
+use Rattle.model.proofs.Demands.Strangers.{listCode, NoRequest}
 use Rattle.model.proofs.Demands.Writes.{ControlPasses, ConfigurePasses}
 use Rattle.model.proofs.Laws.Lowest.{Gives}
 use Rattle.model.proofs.Laws.Places.{All}
 use Rattle.words.specs.Memory.{Memory}
 use Rattle.words.specs.Sizes.{shelfWords}
 use Rattle.words.specs.Words.{shelfOf}
-use Rattle.calls.specs.Operations.{lentBefore, refusals, firstRefusal, Given, startOf, startRefusalsOf}
+use Rattle.calls.specs.Operations.{lentBefore, refusals, Given, startOf, startRefusalsOf}
 use Rattle.calls.specs.Runs.{Goes, Starts, RunsAs, codedTold, RunFrom, operations, lastWords, got}
 use Rattle.calls.specs.Left.{Fails, Answers, WordsFullOrNone}
 use Rattle.calls.specs.Interface.{Interface}
 use Rattle.calls.specs.Linked.{Linked, Server, Host, interface}
-use Rattle.calls.proofs.OneCall.{goes-same, lowest-told, refusal-stays, fails, list-refuses, list-answers, stores-together, control-writes, configure-writes}
+use Rattle.calls.proofs.OneCall.{goes-same, lowest-told, refusal-stays, cut-read, wrong-read, no-request-alike, fails, list-refuses}
+use Rattle.calls.proofs.OneCall.{list-answers, stores-together, control-writes, configure-writes}
 use Rattle.calls.proofs.ManyCalls.{Go, ends, got-answers}
 use Rattle.calls.proofs.Starting.{start-lowest, start-stays, same-told, same-words}
 use Rattle.calls.proofs.Starting.{begun-goes, begun-shelf, begun-sound, begun-history, begun-demand-3}
@@ -73,10 +76,10 @@ module _ (linked : Linked) where
 
   -- "The lowest number that applies is given."
   pub call-refusal : (call : Call) → let c = seen call in length (c .before) ≡ shelfWords
-      → Gives (refusals (shelfOf (c .before)) (c .asked)) (firstRefusal (c .asked)) (refusal (c .told))
+      → Gives (refusals (shelfOf (c .before)) (c .asked)) (refusal (c .told))
   call-refusal call long = lowest-told coded (seen call) (call-goes call long) refusal (follows linked .reads)
 
-  pub start-refusal : (x : Start) → Gives (startRefusalsOf (started x .asked)) 1 (refusal (started x .told))
+  pub start-refusal : (x : Start) → Gives (startRefusalsOf (started x .asked)) (refusal (started x .told))
   start-refusal x = start-lowest coded refusal (follows linked .reads-start) (started x) (start-goes x)
 
   -- "The answer holds the number and nothing else; state and buffer stay. A refused start gives no device."
@@ -86,6 +89,27 @@ module _ (linked : Linked) where
 
   pub start-refused : (x : Start) → 1 ≤ refusal (started x .told) → started x .after ≡ started x .before
   start-refused x = start-stays coded refusal (follows linked .reads-start) (started x) (start-goes x)
+
+  -- #103, "Tell a cut frame from a wrong one": from a zone group, with room for the response, H6 is told exactly for a frame of under four
+  -- bytes, and H10 exactly for one of four or more whose first byte is not 40h.
+  pub call-cut : (call : Call) → let c = seen call in length (c .before) ≡ shelfWords
+      → (g : ℕ) (frame out : List ℕ) → c .asked ≡ Ask g frame out
+      → (refusal (c .told) ≡ 6) ↔ ((g ≤ 31) × (leastBuffer ≤ length out) × (length frame < 4))
+  call-cut call long = cut-read coded (seen call) (call-goes call long) refusal (follows linked .reads)
+
+  pub call-wrong : (call : Call) → let c = seen call in length (c .before) ≡ shelfWords
+      → (g : ℕ) (frame out : List ℕ) → c .asked ≡ Ask g frame out
+      → (refusal (c .told) ≡ 10) ↔ ((g ≤ 31) × (leastBuffer ≤ length out) × (4 ≤ length frame) × (byte frame 0 ≡ 0x40 → ⊥))
+  call-wrong call long = wrong-read coded (seen call) (call-goes call long) refusal (follows linked .reads)
+
+  -- Such a frame learns nothing, whatever else it says, wherever it comes from and whatever is lent: two calls of it on any words are told
+  -- the same, and each leaves its words and its buffer.
+  pub call-learns-nothing : (one other : Call) → let c = seen one in let d = seen other in
+      length (c .before) ≡ shelfWords → length (d .before) ≡ shelfWords → (g : ℕ) (frame out : List ℕ) → NoRequest frame
+      → c .asked ≡ Ask g frame out → d .asked ≡ Ask g frame out → (c .told ≡ d .told) × (c .after ≡ c .before) × (c .buffer ≡ out)
+  call-learns-nothing one other long-c long-d g frame out no-request asks-c asks-d =
+      no-request-alike coded (seen one) (seen other) (call-goes one long-c) (call-goes other long-d) g frame out no-request asks-c asks-d
+      long-c
 
   -- a request of group g that draws no house refusal
   module _ (call : Call) (g : ℕ) (frame out : List ℕ) (asks : seen call .asked ≡ Ask g frame out)

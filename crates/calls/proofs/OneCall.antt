@@ -1,27 +1,30 @@
 -- One call that goes as the model does: nothing but the words and what is asked for matters to it; its house refusal is the lowest that
--- applies, and leaves words and buffer; a failed result leaves the words; a write has its full effect or none; group 1 is given the list of
+-- applies, and leaves words and buffer; H6 tells a cut frame and H10 a wrong one, and neither learns anything; a failed result leaves the words; a write has its full effect or none; group 1 is given the list of
 -- stored peak events, no other group is, and what is stored comes with its origination. Assumes nothing.
-use Prim.Native.Nat.{ℕ, _≤_}
+use Prim.Native.Nat.{ℕ, _≤_, _<_}
 use native.Mathlib.Omega.{arith}
 use mathlib.Core.Path.{_≡_, refl, sym, ap, ap₂, subst, subst⁻¹, _∙_}
+use mathlib.Core.Logic.{_↔_}
 use mathlib.Core.List.{List, []}
 use lib.ListN.{length}
 use Rattle.model.specs.declared.Shelf.{Shelf}
 use Rattle.model.specs.Bytes.{byte}
 use Rattle.model.specs.Fits.{BytesFit, OperationFits, Placed}
+use Rattle.model.specs.House.{answerNumber}
 use Rattle.model.specs.Request.{functionOf}
 use Rattle.model.specs.Runs.{Operation, Ask, Event, LinkChange, ReducedFunctionality, Ses, QueryReach, next}
-use Rattle.model.specs.Server.{served, lentAfter}
+use Rattle.model.specs.Server.{leastBuffer, served, lentAfter}
 use Rattle.model.proofs.Demands.Configured.{Configured}
 use Rattle.model.proofs.Demands.Controlled.{Controlled}
 use Rattle.model.proofs.Demands.EventList.{listFor, ListGiven, list-given}
 use Rattle.model.proofs.Demands.Invariant.{fits-placed}
 use Rattle.model.proofs.Demands.Refusals.{request-gives, event-gives, link-change-gives, query-gives}
-use Rattle.model.proofs.Demands.Refusals.{request-refusal, event-refusal, link-change-refusal}
+use Rattle.model.proofs.Demands.Refusals.{cut-told, wrong-told, request-refusal, event-refusal, link-change-refusal}
 use Rattle.model.proofs.Demands.Results.{Failed, NotRefused, failed-result}
 use Rattle.model.proofs.Demands.Stored.{StoredTogether, placed-next-stored}
-use Rattle.model.proofs.Demands.Strangers.{listCode, list-refused}
+use Rattle.model.proofs.Demands.Strangers.{listCode, list-refused, NoRequest, no-request-learns-nothing}
 use Rattle.model.proofs.Demands.Writes.{ControlPasses, ConfigurePasses, FullOrNone, placed-control-write, placed-configure-write}
+use Rattle.model.proofs.Laws.Drawn.{nothing}
 use Rattle.model.proofs.Laws.Lowest.{Gives, row-gives}
 use Rattle.words.specs.Memory.{Memory}
 use Rattle.words.specs.Sizes.{shelfWords}
@@ -29,19 +32,19 @@ use Rattle.words.specs.Words.{shelfOf, laidOver}
 use Rattle.words.proofs.Laying.{laid-same}
 use Rattle.words.proofs.Lens.{stands-fit}
 use Rattle.words.proofs.Steps.{next-stands, next-memory}
-use Rattle.calls.specs.Operations.{Said, ToRequest, said, saidNumber, lentBefore, bufferAfter, refusals, firstRefusal}
+use Rattle.calls.specs.Operations.{Said, ToRequest, said, saidNumber, lentBefore, bufferAfter, refusals}
 use Rattle.calls.specs.Runs.{Asks, Goes}
 use Rattle.calls.specs.Left.{Fails, Answers, WordsFullOrNone}
 
 -- ---- The model, of every kind of operation alike
 
-said-gives : (s : Shelf) (o : Operation) → Gives (refusals s o) (firstRefusal o) (saidNumber (said s o))
+said-gives : (s : Shelf) (o : Operation) → Gives (refusals s o) (saidNumber (said s o))
 unfolding said
 said-gives s (Ask g frame out) = request-gives s g frame out
 said-gives s (Event p source amount) = event-gives s p source amount
 said-gives s (LinkChange p) = link-change-gives s p
-said-gives s ReducedFunctionality = row-gives [] [] 7 (omega arith) tt
-said-gives s Ses = row-gives [] [] 7 (omega arith) tt
+said-gives s ReducedFunctionality = row-gives [] [] tt nothing
+said-gives s Ses = row-gives [] [] tt nothing
 said-gives s (QueryReach g) = query-gives s g
 
 said-stays : (s : Shelf) (o : Operation) → 1 ≤ saidNumber (said s o) → (next s o ≡ s) × (bufferAfter s o ≡ lentBefore o)
@@ -104,9 +107,9 @@ module _ {A : Type 0} (coded : Said → A) (c : Asks A) (goes : Goes coded (shel
     number-told : refusal (c .told) ≡ saidNumber (said (shelfOf (c .before)) (c .asked))
     number-told = ap refusal (goes .told) ∙ reads (shelfOf (c .before)) (c .asked)
 
-    pub lowest-told : Gives (refusals (shelfOf (c .before)) (c .asked)) (firstRefusal (c .asked)) (refusal (c .told))
+    pub lowest-told : Gives (refusals (shelfOf (c .before)) (c .asked)) (refusal (c .told))
     lowest-told =
-        subst⁻¹ (Gives (refusals (shelfOf (c .before)) (c .asked)) (firstRefusal (c .asked))) number-told
+        subst⁻¹ (Gives (refusals (shelfOf (c .before)) (c .asked))) number-told
         (said-gives (shelfOf (c .before)) (c .asked))
 
     pub refusal-stays : length (c .before) ≡ shelfWords → 1 ≤ refusal (c .told)
@@ -114,6 +117,19 @@ module _ {A : Type 0} (coded : Said → A) (c : Asks A) (goes : Goes coded (shel
     refusal-stays long refused =
         let same = said-stays (shelfOf (c .before)) (c .asked) (subst (λ n. 1 ≤ n) number-told refused) in
         (stays long (same .0), goes .buffer ∙ same .1)
+
+    -- H6 and H10 (#103)
+    module _ (g : ℕ) (frame out : List ℕ) (asks : c .asked ≡ Ask g frame out) where
+      request-told : refusal (c .told) ≡ answerNumber (served (shelfOf (c .before)) g frame out .answer)
+      unfolding said
+      request-told = number-told ∙ ap (λ o. saidNumber (said (shelfOf (c .before)) o)) asks
+
+      pub cut-read : (refusal (c .told) ≡ 6) ↔ ((g ≤ 31) × (leastBuffer ≤ length out) × (length frame < 4))
+      cut-read = rw request-told (cut-told (shelfOf (c .before)) g frame out)
+
+      pub wrong-read : (refusal (c .told) ≡ 10)
+          ↔ ((g ≤ 31) × (leastBuffer ≤ length out) × (4 ≤ length frame) × (byte frame 0 ≡ 0x40 → ⊥))
+      wrong-read = rw request-told (wrong-told (shelfOf (c .before)) g frame out)
 
     -- a request that is not refused
     module _ (g : ℕ) (frame out : List ℕ) (asks : c .asked ≡ Ask g frame out) (answered : refusal (c .told) ≡ 0) where
@@ -188,3 +204,21 @@ module _ {A : Type 0} (coded : Said → A) (c : Asks A) (goes : Goes coded (shel
       pub configure-writes : Memory (c .before) → BytesFit frame → functionOf frame ≡ 0x93
           → WordsFullOrNone (ConfigurePasses s g frame) (Configured s (byte frame 9) frame) (c .before) (c .after)
       configure-writes memory fit e = writes memory fit (placed-configure-write s (placed memory) g frame out not-refused e)
+
+-- Two calls of a frame that is cut, or wrong, on whatever words: they are told the same, and each leaves its words and its buffer.
+module _ {A : Type 0} (coded : Said → A) (c d : Asks A) (goes-c : Goes coded (shelfOf (c .before)) c)
+    (goes-d : Goes coded (shelfOf (d .before)) d) where
+  pub no-request-alike : (g : ℕ) (frame out : List ℕ) → NoRequest frame → c .asked ≡ Ask g frame out → d .asked ≡ Ask g frame out
+      → length (c .before) ≡ shelfWords → (c .told ≡ d .told) × (c .after ≡ c .before) × (c .buffer ≡ out)
+  unfolding said next bufferAfter served
+  no-request-alike g frame out no-request asks-c asks-d long =
+      let s : Shelf = shelfOf (c .before) in
+      let t : Shelf = shelfOf (d .before) in
+      let (alike, shelf, buffer) = no-request-learns-nothing s t g frame out no-request in (
+        goes-c .told
+            ∙ ap (λ o. coded (said s o)) asks-c
+            ∙ ap (λ a. coded (ToRequest a)) alike
+            ∙ sym (goes-d .told ∙ ap (λ o. coded (said t o)) asks-d),
+        stays coded c goes-c long (ap (next s) asks-c ∙ shelf),
+        goes-c .buffer ∙ ap (bufferAfter s) asks-c ∙ buffer,
+      )

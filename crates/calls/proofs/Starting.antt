@@ -39,9 +39,9 @@ module _ {A : Type 0} (coded : Said → A) (refusal : A → ℕ)
     start-number : refusal (x .told) ≡ takenNumber (startOf (x .asked) .taken)
     start-number = ap refusal (starts .told) ∙ reads (startOf (x .asked) .taken)
 
-    pub start-lowest : Gives (startRefusalsOf (x .asked)) 1 (refusal (x .told))
+    pub start-lowest : Gives (startRefusalsOf (x .asked)) (refusal (x .told))
     start-lowest =
-        subst⁻¹ (Gives (startRefusalsOf (x .asked)) 1) start-number
+        subst⁻¹ (Gives (startRefusalsOf (x .asked))) start-number
         (start-gives (x .asked .number) (x .asked .groups) (x .asked .table) (x .asked .identifier))
 
     pub start-stays : 1 ≤ refusal (x .told) → x .after ≡ x .before

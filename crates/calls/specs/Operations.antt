@@ -15,7 +15,7 @@ use Rattle.model.specs.Reports.{event, linkChange}
 use Rattle.model.specs.Runs.{Operation, Ask, Event, LinkChange, ReducedFunctionality, Ses, QueryReach}
 use Rattle.model.specs.Server.{served, lentAfter}
 use Rattle.model.specs.Shelf.{start}
-use Rattle.model.proofs.Demands.Refusals.{sourceRefusal, requestRefusals, phyRefusal, eventRefusals, startRefusals}
+use Rattle.model.proofs.Demands.Refusals.{startRefusals, requestRefusals, queryRefusals, eventRefusals, linkChangeRefusals}
 
 -- What a caller is told: the answer to a request, whether a report or a start is taken, the answer to a reach query. A device notice is
 -- told nothing.
@@ -59,7 +59,7 @@ gets g ReducedFunctionality = false
 gets g Ses = false
 gets g (QueryReach h) = eqb h g
 
--- ---- House refusals: the number that is told, 0 where none is; and the conditions in their row, from the first one's number on. A device
+-- ---- House refusals: the number that is told, 0 where none is; and all that there are, each with its number and its condition. A device
 -- notice has none.
 
 abbrev pub saidNumber : Said → ℕ
@@ -68,21 +68,13 @@ saidNumber (ToReport taken) = takenNumber taken
 saidNumber ToNotice = 0
 saidNumber (ToQuery reach) = queryNumber reach
 
-abbrev pub refusals : Shelf → Operation → List (Type 0)
+abbrev pub refusals : Shelf → Operation → List (ℕ × Type 0)
 refusals s (Ask g frame out) = requestRefusals g frame out
 refusals s (Event p source amount) = eventRefusals s p source amount
-refusals s (LinkChange p) = phyRefusal s p ∷ []
+refusals s (LinkChange p) = linkChangeRefusals s p
 refusals s ReducedFunctionality = []
 refusals s Ses = []
-refusals s (QueryReach g) = sourceRefusal g ∷ []
-
-abbrev pub firstRefusal : Operation → ℕ
-firstRefusal (Ask g frame out) = 4
-firstRefusal (Event p source amount) = 7
-firstRefusal (LinkChange p) = 7
-firstRefusal ReducedFunctionality = 7
-firstRefusal Ses = 7
-firstRefusal (QueryReach g) = 4
+refusals s (QueryReach g) = queryRefusals g
 
 -- ---- A start: what it is given, by content, and what the model makes of it
 
@@ -95,5 +87,5 @@ pub record Given : Type 0 where
 abbrev pub startOf : Given → Outcome
 startOf x = start (x .number) (x .groups) (x .table) (x .identifier)
 
-abbrev pub startRefusalsOf : Given → List (Type 0)
+abbrev pub startRefusalsOf : Given → List (ℕ × Type 0)
 startRefusalsOf x = startRefusals (x .number) (x .groups) (x .table)

@@ -11,8 +11,9 @@ pub(crate) fn print_unreadable() {
 
 // Writes a house refusal.
 pub(crate) fn print_house(house: House) {
-    let text = house_text(house);
-    io::write_all(STDOUT_FILENO, &text);
+    let mut text = [0u8; 5];
+    let n = house_text(house, &mut text);
+    io::write_all(STDOUT_FILENO, &text[..n]);
 }
 
 // Writes a response.

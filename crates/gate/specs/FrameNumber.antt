@@ -1,5 +1,6 @@
 -- "The shelf's firmware is in C. It calls two parts that need no device: judging one request frame alone (function and H6,
--- 01h, 03h or nothing wrong) .." What C is told of a frame is one number of 32 bits, in four parts of 8 bits.
+-- 01h, 03h or nothing wrong) .." #103, of H6 and H10: "The C firmware's frame judge tells both as well." What C is told of a frame is one
+-- number of 32 bits, in four parts of 8 bits.
 use Prim.Native.Nat.{ℕ, _+_, _*_}
 use mathlib.Core.Bool.{Bool, cond}
 use mathlib.Core.List.{List}
@@ -11,7 +12,7 @@ use Rattle.model.specs.House.{houseNumber}
 use Rattle.model.specs.Request.{functionOf, judge}
 use Rattle.model.specs.Results.{resultCode}
 
--- Of a frame under four bytes there is no function to tell; from four bytes on it is byte 1, also beside H6.
+-- Of a frame under four bytes there is no function to tell; from four bytes on it is byte 1, also beside H10.
 abbrev pub hasFunction : List ℕ → Bool
 hasFunction frame = leb 4 (length frame)
 
@@ -25,7 +26,7 @@ resultPart (Asked request) = 0x00
 resultPart (NoFrame house) = 0x00
 resultPart (Fails result) = resultCode result
 
--- bits 16 to 23: the number of the house refusal that it draws, 6, or 0 where it draws none
+-- bits 16 to 23: the number of the house refusal that it draws, 6 or 10, or 0 where it draws none
 abbrev pub housePart : Judged → ℕ
 housePart (Asked request) = 0
 housePart (NoFrame house) = houseNumber house

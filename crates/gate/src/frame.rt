@@ -8,14 +8,21 @@ use model::House;
 use model::Judged;
 use model::Request;
 ghost use mathlib.Core.Path.{_≡_};
-ghost use Rattle.model.specs.Request.{badFrame, known, lengthRight, asked, judge};
+ghost use Rattle.model.specs.Request.{cutFrame, wrongFrame, known, lengthRight, asked, judge};
 ghost use Rattle.gate.specs.FrameNumber.{housePart, resultPart, frameNumber};
 
-// H6: "request under 4 bytes, or first byte not 40h"
-fn bad_frame(frame: &[u8]) -> bool
-    ensures { λ r. ⌜ r ≡ badFrame (now (frame .entry)) ⌝ }
+// H6: "request under 4 bytes". #103: "H6 keeps the first meaning"
+fn cut_frame(frame: &[u8]) -> bool
+    ensures { λ r. ⌜ r ≡ cutFrame (now (frame .entry)) ⌝ }
 {
-    (frame.len() < 4) | (byte_at(frame, 0) != 0x40)
+    frame.len() < 4
+}
+
+// #103: "H10, first byte not 40h, takes its turn directly after H6 and before any function result"
+fn wrong_frame(frame: &[u8]) -> bool
+    ensures { λ r. ⌜ r ≡ wrongFrame (now (frame .entry)) ⌝ }
+{
+    byte_at(frame, 0) != 0x40
 }
 
 // Not 01h, which is for a function that is "not 00h, 01h, 06h, 11h, 14h, 91h or 93h". #101: "function 21h joins the known
@@ -90,12 +97,15 @@ fn asked(frame: &[u8]) -> Request
     }
 }
 
-// Judging one request frame alone: the read request, or H6, 01h or 03h.
+// Judging one request frame alone: the read request, or H6, H10, 01h or 03h.
 pub fn judge(frame: &[u8]) -> Judged
     ensures { λ r. ⌜ r ≡ judge (now (frame .entry)) ⌝ }
 {
-    if bad_frame(frame) {
-        return Judged::NoFrame(House::BadFrame);
+    if cut_frame(frame) {
+        return Judged::NoFrame(House::CutFrame);
+    }
+    if wrong_frame(frame) {
+        return Judged::NoFrame(House::WrongFrame);
     }
     if !known(byte_at(frame, 1)) {
         return Judged::Fails(FunctionResult::UnknownSmpFunction);
@@ -128,8 +138,8 @@ fn house_part(judged: Judged) -> u8
     }
 }
 
-// What the C firmware is told of a frame: the function and H6, 01h, 03h or nothing wrong, as one
-// number in four parts.
+// What the C firmware is told of a frame: the function and H6, H10, 01h, 03h or nothing wrong, as one
+// number in four parts. #103: "The C firmware's frame judge tells both as well."
 #[no_mangle]
 pub extern "C" fn smp_judge_frame(frame: &[u8]) -> u32
     ensures { λ r. ⌜ r ≡ frameNumber (now (frame .entry)) ⌝ }

@@ -1,4 +1,4 @@
-// The numbers that document 01 gives the house refusals and the function results, and #101 one more of these.
+// The numbers that document 01 gives the house refusals and the function results; #103 adds one to those, and #101 one to these.
 use model::FunctionResult;
 use model::House;
 ghost use mathlib.Core.Path.{_≡_};
@@ -15,10 +15,11 @@ pub fn house_number(house: House) -> u8
         House::IllegalTable => 3,
         House::SourceGroup => 4,
         House::ShortBuffer => 5,
-        House::BadFrame => 6,
+        House::CutFrame => 6,
         House::NoSuchPhy => 7,
         House::EventSource => 8,
         House::Amount => 9,
+        House::WrongFrame => 10,
     }
 }
 

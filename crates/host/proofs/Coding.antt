@@ -10,7 +10,7 @@ use lib.Dec.{ltb}
 use lib.ListN.{length}
 use Rattle.model.specs.declared.House.{House}
 use Rattle.model.specs.declared.House.the-variants.{PhyNumber, PhyGroup, IllegalTable, SourceGroup, ShortBuffer}
-use Rattle.model.specs.declared.House.the-variants.{BadFrame, NoSuchPhy, EventSource, Amount}
+use Rattle.model.specs.declared.House.the-variants.{CutFrame, NoSuchPhy, EventSource, Amount, WrongFrame}
 use Rattle.model.specs.declared.Reach.the-variants.{Reaches, NoReach}
 use Rattle.model.specs.declared.Shelf.{Shelf}
 use Rattle.model.specs.House.{houseNumber}
@@ -28,10 +28,11 @@ refused-read PhyGroup = (omega arith, omega arith)
 refused-read IllegalTable = (omega arith, omega arith)
 refused-read SourceGroup = (omega arith, omega arith)
 refused-read ShortBuffer = (omega arith, omega arith)
-refused-read BadFrame = (omega arith, omega arith)
+refused-read CutFrame = (omega arith, omega arith)
 refused-read NoSuchPhy = (omega arith, omega arith)
 refused-read EventSource = (omega arith, omega arith)
 refused-read Amount = (omega arith, omega arith)
+refused-read WrongFrame = (omega arith, omega arith)
 
 -- a response is told by its length, 4 to 400, and so without bit 31
 pub response-read : (s : Shelf) (g : ℕ) (frame : List ℕ) (room : ℕ) (bytes : List ℕ) → handle s g frame room .reply ≡ Sends bytes

@@ -1,4 +1,4 @@
--- What C is told: one number of 32 bits. Bit 31 says that it is a house refusal, whose number, 1 to 9, is in the low bits; where it is
+-- What C is told: one number of 32 bits. Bit 31 says that it is a house refusal, whose number, 1 to 10, is in the low bits; where it is
 -- not set, the number is what was asked for.
 use Prim.Native.Nat.{ℕ, _+_, _*_, _≤_, _<_}
 use Rattle.model.specs.declared.Answer.{Answer}

@@ -43,7 +43,7 @@ pub extern "C" fn smp_start(
     taken_told(start(shelf, number, *groups, *table, *identifier))
 }
 
-// One request. Tells the length of the response in the lent buffer, or H4, H5 or H6.
+// One request. Tells the length of the response in the lent buffer, or H4, H5, H6 or H10.
 #[no_mangle]
 pub extern "C" fn smp_serve(
     shelf: &mut [u32; WORDS],

@@ -7,7 +7,7 @@ use Rattle.model.specs.Reach.{reachSet, reachNumber, reachQuery}
 use Rattle.model.specs.Reply.{reportGeneral, reportManufacturer, reportPhyErrorLog, reportPhyEvent}
 use Rattle.model.specs.Reply.{deviceListed, phyListed, broadcasts, descriptors, reportBroadcast, reportPhyEventList, respond}
 use Rattle.model.specs.Reports.{amountTooLarge, eventTaken, event, linkChange, reducedFunctionality, sesNotice}
-use Rattle.model.specs.Request.{badFrame, known, lengthRight, asked, judge, allowed, firstUnsupported}
+use Rattle.model.specs.Request.{cutFrame, wrongFrame, known, lengthRight, asked, judge, allowed, firstUnsupported}
 use Rattle.model.specs.Results.{countRight, knownOperation, resultOf, decide}
 use Rattle.model.specs.Runs.{next, after, told, answers}
 use Rattle.model.specs.Server.{handle, served, lentAfter}
@@ -38,7 +38,7 @@ unfolding freshShelf noShelf startTaken start amountTooLarge eventTaken event li
 shelves = 0
 
 unfoldable pub requests : ℕ
-unfolding badFrame known lengthRight asked judge allowed firstUnsupported countRight knownOperation resultOf decide
+unfolding cutFrame wrongFrame known lengthRight asked judge allowed firstUnsupported countRight knownOperation resultOf decide
 requests = 0
 
 unfoldable pub replies : ℕ

@@ -41,7 +41,7 @@ starts-taken-hold =
 pub refusals-hold : Holds refusals
 unfolding refusals computes
 refusals-hold =
-    (refl, (refl, (refl, (refl, (refl, (refl, (refl, (refl, (refl, (refl, (refl, (refl, tt))))))))))))
+    (refl, (refl, (refl, (refl, (refl, (refl, (refl, (refl, (refl, (refl, (refl, (refl, (refl, (refl, (refl, (refl, (refl, (refl, (refl, (refl, (refl, (refl, (refl, tt)))))))))))))))))))))))
 
 pub results-hold : Holds results
 unfolding results computes

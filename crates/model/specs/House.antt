@@ -1,12 +1,13 @@
 -- "House refusals: no frame is written". "The answer holds the number and nothing else; state and buffer stay."
 -- What each is given for stands where it is given: H1 to H3 in `Shelf`, H4 in `Reach` and `Server`, H5 in `Server`,
--- H6 in `Request`, H7 to H9 in `Reports`. "The lowest number that applies is given": there they stand in rising order.
+-- H6 in `Request`, H7 to H9 in `Reports`, and H10, which #103 adds, in `Request`. "The lowest number that applies is given": there
+-- they stand in rising order.
 use Prim.Native.Nat.{ℕ}
 use Rattle.model.specs.declared.Answer.{Answer}
 use Rattle.model.specs.declared.Answer.the-variants.{Response, NoResponse}
 use Rattle.model.specs.declared.House.{House}
 use Rattle.model.specs.declared.House.the-variants.{PhyNumber, PhyGroup, IllegalTable, SourceGroup, ShortBuffer}
-use Rattle.model.specs.declared.House.the-variants.{BadFrame, NoSuchPhy, EventSource, Amount}
+use Rattle.model.specs.declared.House.the-variants.{CutFrame, NoSuchPhy, EventSource, Amount, WrongFrame}
 use Rattle.model.specs.declared.Reach.{Reach}
 use Rattle.model.specs.declared.Reach.the-variants.{Reaches, NoReach}
 use Rattle.model.specs.declared.Taken.{Taken}
@@ -18,10 +19,11 @@ houseNumber PhyGroup = 2
 houseNumber IllegalTable = 3
 houseNumber SourceGroup = 4
 houseNumber ShortBuffer = 5
-houseNumber BadFrame = 6
+houseNumber CutFrame = 6
 houseNumber NoSuchPhy = 7
 houseNumber EventSource = 8
 houseNumber Amount = 9
+houseNumber WrongFrame = 10
 
 -- The number that a start or a report, a request, and a reach query is told: 0 where it is not refused.
 abbrev pub takenNumber : Taken → ℕ

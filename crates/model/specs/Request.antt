@@ -1,12 +1,13 @@
--- "judging one request frame alone (function and H6, 01h, 03h or nothing wrong)". "Judging yields the read request or a refusal;
--- the server takes its requests from there only." "The link layer strips and checks the CRC. All frames here are without it".
+-- "judging one request frame alone (function and H6, 01h, 03h or nothing wrong)". By #103 "H6 keeps the first meaning" of its two, and
+-- the judge tells H10 "as well". "Judging yields the read request or a refusal; the server takes its requests from there only." "The link
+-- layer strips and checks the CRC. All frames here are without it".
 use Prim.Native.Nat.{ℕ, zero, suc, _+_, _*_}
 use mathlib.Core.Bool.{Bool, not, cond, _&&_, _||_}
 use mathlib.Core.List.{List, [], _∷_}
 use lib.Dec.{ltb, eqb}
 use lib.ListN.{length}
 use Rattle.model.specs.declared.FunctionResult.the-variants.{UnknownSmpFunction, InvalidRequestFrameLength}
-use Rattle.model.specs.declared.House.the-variants.{BadFrame}
+use Rattle.model.specs.declared.House.the-variants.{CutFrame, WrongFrame}
 use Rattle.model.specs.declared.Judged.{Judged}
 use Rattle.model.specs.declared.Judged.the-variants.{Asked, NoFrame, Fails}
 use Rattle.model.specs.declared.Request.{Request}
@@ -18,9 +19,14 @@ use Rattle.model.specs.Sources.{supported}
 use Rattle.model.specs.Tests.{check, given, oneOf}
 use Rattle.model.specs.Zone.{bit}
 
--- H6: "request under 4 bytes, or first byte not 40h"
-unfoldable pub badFrame : List ℕ → Bool
-badFrame frame = ltb (length frame) 4 || not (eqb (byte frame 0) 0x40)
+-- H6: "request under 4 bytes, or first byte not 40h" were its two faults; #103: "H6 keeps the first meaning", "a cut frame".
+unfoldable pub cutFrame : List ℕ → Bool
+cutFrame frame = ltb (length frame) 4
+
+-- #103: "H10, first byte not 40h, takes its turn directly after H6 and before any function result": a wrong frame, such as "a response
+-- fed back as a request".
+unfoldable pub wrongFrame : List ℕ → Bool
+wrongFrame frame = not (eqb (byte frame 0) 0x40)
 
 -- the function, which a request of four bytes or more has
 abbrev pub functionOf : List ℕ → ℕ
@@ -70,10 +76,11 @@ asked frame =
 
 unfoldable pub judge : List ℕ → Judged
 judge frame =
-    given (badFrame frame) (NoFrame BadFrame)
+    given (cutFrame frame) (NoFrame CutFrame)
+    (given (wrongFrame frame) (NoFrame WrongFrame)
     (check (known (functionOf frame)) (Fails UnknownSmpFunction)
     (check (lengthRight frame) (Fails InvalidRequestFrameLength)
-    (Asked (asked frame))))
+    (Asked (asked frame)))))
 
 -- the phy of a function that has one; a request without a phy names none, and nothing asks for it
 abbrev pub phyOf : Request → ℕ

@@ -52,7 +52,7 @@ handleJudged s g frame (Asked request) = conclude s g frame request (decide s g 
 abbrev pub leastBuffer : ℕ
 leastBuffer = 1028
 
--- H4 "source group above 31", H5, then H6 and the function results
+-- H4 "source group above 31", H5, then H6, H10 (#103) and the function results
 unfoldable pub handle : Shelf → ℕ → List ℕ → ℕ → Handled
 handle s g frame room =
     given (ltb 31 g) (refuse s SourceGroup)

@@ -74,17 +74,19 @@ pub struct Shelf {
     pub store: Store,
 }
 
-// The house refusals, H1 to H9 in this order; `houseNumber` gives each its number.
+// The house refusals, H1 to H10 in this order; `houseNumber` gives each its number. By #103 `CutFrame` is H6
+// alone, and `WrongFrame` is H10.
 pub enum House {
     PhyNumber,
     PhyGroup,
     IllegalTable,
     SourceGroup,
     ShortBuffer,
-    BadFrame,
+    CutFrame,
     NoSuchPhy,
     EventSource,
     Amount,
+    WrongFrame,
 }
 
 // The function results by their T10 names; `resultCode` gives each its code.

@@ -12,7 +12,7 @@ use Rattle.model.specs.Results.{resultCode, accepted}
 use Rattle.model.specs.Server.{Reply, Refuses, Sends}
 use Rattle.model.specs.Writes.{effect}
 
--- H6, or 01h or 03h in a failed response; where a request was read, nothing is sent yet.
+-- H6 or H10, or 01h or 03h in a failed response; where a request was read, nothing is sent yet.
 abbrev pub judgedReply : ℕ → Judged → Reply
 judgedReply function (NoFrame house) = Refuses house
 judgedReply function (Fails result) = Sends (failed function (resultCode result))

@@ -68,7 +68,7 @@ pub fn start(
 }
 
 // One request: source group, request frame and lent buffer. The answer is the length of the response in the buffer, or
-// H4, H5, H6, in this order.
+// H4, H5, H6, H10, in this order.
 pub fn serve(words: &mut [u32; WORDS], source: u32, frame: &[u8], out: &mut [u8]) -> Answer
     ensures told { λ r. ⌜ r ≡ served (shelfOf (now (words .entry))) source (now (frame .entry)) (now (out .entry)) .answer ⌝ }
     ensures kept { λ _.

@@ -21,7 +21,7 @@ ghost use Rattle.server.specs.Serving.{judgedReply, drawn, leaves};
 ghost use Rattle.words.specs.Words.{shelfOf, laidOver};
 ghost use Rattle.server.specs.Answers.{Answers};
 
-// What is answered where no request could be read from the frame: H6, or 01h or 03h in a failed response.
+// What is answered where no request could be read from the frame: H6 or H10, or 01h or 03h in a failed response.
 pub(crate) fn turned_away(judged: Judged, function: u8, out: &mut [u8]) -> Answer
     requires { ⌜ leastBuffer ≤ length (now out) ⌝ }
     ensures told { λ r. ⌜ r ≡ answer (judgedReply function judged) ⌝ }

@@ -16,7 +16,11 @@ at-most-settled = record {
 }
 
 pub house-text-settled : Settled house_text.Kinds.ps house_text.Kinds.r house_text.Reads.Pre house_text.Reads.Post
-house-text-settled = value-settles _ _ _ (λ κs a x y. refl)
+house-text-settled = record {
+  asks-nothing = λ κs a. tt;
+  same-result = λ κs a x y. x .promised .1 .0 ∙ sym (y .promised .1 .0);
+  same-lent = λ κs a x y. ap (λ text. (tt, (text, tt))) (x .promised .1 .1 ∙ sym (y .promised .1 .1));
+}
 
 pub set-text-settled : Settled set_text.Kinds.ps set_text.Kinds.r set_text.Reads.Pre set_text.Reads.Post
 set-text-settled = value-settles _ _ _ (λ κs a x y. refl)

@@ -11,9 +11,13 @@ use Rattle.model.specs.House.{houseNumber}
 unfoldable pub hexDigit : ℕ → ℕ
 hexDigit v = cond (leb v 9) (0x30 + v) (cond (leb v 15) (0x41 + (v - 10)) 0x3F)
 
--- a house refusal, as H4, and a newline
+-- a number below 100 in decimal, without a needless 0
+unfoldable pub decimal : ℕ → List ℕ
+decimal n = cond (leb n 9) (hexDigit n ∷ []) (hexDigit (n / 10) ∷ hexDigit (n % 10) ∷ [])
+
+-- a house refusal, as H4 or H10, and a newline
 abbrev pub houseText : House → List ℕ
-houseText house = 0x20 ∷ 0x48 ∷ hexDigit (houseNumber house) ∷ 0x0A ∷ []
+houseText house = 0x20 ∷ 0x48 ∷ (decimal (houseNumber house) ++ (0x0A ∷ []))
 
 -- a set of phys as eight digits, a comma and a space
 abbrev pub setText : ℕ → List ℕ

@@ -8,7 +8,8 @@ use gate::numbers::house_number;
 use model::House;
 use part::at_most;
 ghost use mathlib.Core.Path.{_≡_};
-ghost use lib.ListN.{take, drop};
+ghost use lib.ListN.{length, take, drop};
+ghost use Rattle.model.specs.Server.{over};
 ghost use Rattle.spelling.specs.Part.{Counts};
 ghost use Rattle.spelling.specs.Spelling.{hexDigit, houseText, setText, responseText};
 
@@ -23,11 +24,27 @@ fn hex_digit(value: u8) -> u8
     }
 }
 
-// A house refusal, as H4, and a newline.
-pub fn house_text(house: House) -> [u8; 4]
-    ensures { λ r. ⌜ r ≡ houseText house ⌝ }
+// Spells a house refusal, as H4 or H10, at the start of the text, with a newline, and gives how long
+// that is; what stands behind stays.
+pub fn house_text(house: House, text: &mut [u8; 5]) -> usize
+    ensures size { λ r. ⌜ Counts r (now (text .exit)) ⌝ }
+    ensures long { λ r. ⌜ r ≡ length (houseText house) ⌝ }
+    ensures spelled { λ r. ⌜ now (text .exit) ≡ over (now (text .entry)) (houseText house) ⌝ }
 {
-    [b' ', b'H', hex_digit(house_number(house)), b'\n']
+    // a slice, since the proof speaks of its length
+    let written: &mut [u8] = text;
+    let number = house_number(house);
+    written[0] = b' ';
+    written[1] = b'H';
+    if number < 10 {
+        written[2] = hex_digit(number);
+        written[3] = b'\n';
+        return 4;
+    }
+    written[2] = hex_digit(number / 10);
+    written[3] = hex_digit(number % 10);
+    written[4] = b'\n';
+    5
 }
 
 // A set of phys as eight hexadecimal digits, a comma and a space.

@@ -25,7 +25,7 @@ use Rattle.model.specs.Reports.{eventTaken, event, linkChangeTaken, link
 use Rattle.model.specs.Server.{served, lentAfter}
 use Rattle.model.specs.Shelf.{exists, phyAt, put, putDevice, putStore, entryOf, freshShelf, noShelf, outcome, startTaken, start}
 use Rattle.model.specs.Store.{storeAll}
-use Rattle.model.proofs.Demands.Refusals.{startRefusals, requestRefusals, phyRefusal, eventRefusals, start-gives}
+use Rattle.model.proofs.Demands.Refusals.{startRefusals, requestRefusals, eventRefusals, linkChangeRefusals, start-gives}
 use Rattle.model.proofs.Demands.Refusals.{request-gives, event-gives, link-change-gives, request-refusal}
 use Rattle.model.proofs.Demands.Results.{failures, NotRefused, result-drawn, Failed, failed-result, Granted}
 use Rattle.model.proofs.Demands.Results.{granted-result}
@@ -39,7 +39,7 @@ use Rattle.model.proofs.Plain.Writes.{change-stores}
 
 pub data RequestEnds (s : Shelf) (g : ℕ) (frame out : List ℕ) : Type 0 where
   -- by house refusal k, the lowest that applies; shelf and buffer stay
-  IsRefused : (k : ℕ) → 1 ≤ k → answerNumber (served s g frame out .answer) ≡ k → Lowest (requestRefusals g frame out) 4 k
+  IsRefused : (k : ℕ) → 1 ≤ k → answerNumber (served s g frame out .answer) ≡ k → Lowest (requestRefusals g frame out) k
       → served s g frame out .shelf ≡ s → lentAfter s g frame out ≡ out → RequestEnds s g frame out
   -- with the code of its first failure; the shelf stays
   HasFailed : (code : ℕ) → 1 ≤ code → NotRefused s g frame out → Draws (failures s g frame) code
@@ -95,43 +95,43 @@ one-end s g frame out a b = kind-told s g frame out a ∙ sym (kind-told s g fra
 
 -- ---- A start, an event report and a link change is refused, or done.
 
-pub data TakenEnds (conditions : List (Type 0)) (n : ℕ) (old new : Shelf) (o : Outcome) : Type 0 where
-  NotTaken : (k : ℕ) → 1 ≤ k → takenNumber (o .taken) ≡ k → Lowest conditions n k → o .shelf ≡ old
-      → TakenEnds conditions n old new o
-  TakenDone : o .taken ≡ Done → ((k : ℕ) → Applies conditions n k → ⊥) → o .shelf ≡ new
-      → TakenEnds conditions n old new o
+pub data TakenEnds (refusals : List (ℕ × Type 0)) (old new : Shelf) (o : Outcome) : Type 0 where
+  NotTaken : (k : ℕ) → 1 ≤ k → takenNumber (o .taken) ≡ k → Lowest refusals k → o .shelf ≡ old
+      → TakenEnds refusals old new o
+  TakenDone : o .taken ≡ Done → ((k : ℕ) → Applies refusals k → ⊥) → o .shelf ≡ new
+      → TakenEnds refusals old new o
 
-every-taken : (conditions : List (Type 0)) (n : ℕ) (taken : Taken) (old new : Shelf)
-    → Gives conditions n (takenNumber (outcome taken old new .taken)) → TakenEnds conditions n old new (outcome taken old new)
-every-taken conditions n Done old new gives = TakenDone refl (gives .none .0 refl) refl
-every-taken conditions n (NotDone house) old new gives =
+every-taken : (refusals : List (ℕ × Type 0)) (taken : Taken) (old new : Shelf)
+    → Gives refusals (takenNumber (outcome taken old new .taken)) → TakenEnds refusals old new (outcome taken old new)
+every-taken refusals Done old new gives = TakenDone refl (gives .none .0 refl) refl
+every-taken refusals (NotDone house) old new gives =
     let some : 1 ≤ houseNumber house = house-some house in
     NotTaken (houseNumber house) some refl (gives .each (houseNumber house) .0 (some, refl)) refl
 
 pub every-start : (n : ℕ) (groups table identifier : List ℕ)
-    → TakenEnds (startRefusals n groups table) 1 noShelf (freshShelf n groups table identifier) (start n groups table identifier)
+    → TakenEnds (startRefusals n groups table) noShelf (freshShelf n groups table identifier) (start n groups table identifier)
 unfolding start
 every-start n groups table identifier =
-    every-taken (startRefusals n groups table) 1 (startTaken n groups table) noShelf (freshShelf n groups table identifier)
+    every-taken (startRefusals n groups table) (startTaken n groups table) noShelf (freshShelf n groups table identifier)
     (start-gives n groups table identifier)
 
 pub every-event : (s : Shelf) (p source amount : ℕ)
-    → TakenEnds (eventRefusals s p source amount) 7 s
+    → TakenEnds (eventRefusals s p source amount) s
     (putStore (put s p (eventOn source amount (phyAt s p) .phy) (s .changes))
     (storeAll (s .store) (map (entryOf p) (crossed source amount (phyAt s p .monitors)))))
     (event s p source amount)
 unfolding event eventOn
 every-event s p source amount =
-    every-taken (eventRefusals s p source amount) 7 (eventTaken (exists s p) source amount) s _ (event-gives s p source amount)
+    every-taken (eventRefusals s p source amount) (eventTaken (exists s p) source amount) s _ (event-gives s p source amount)
 
 pub every-link-change : (s : Shelf) (p : ℕ)
-    → TakenEnds (phyRefusal s p ∷ []) 7 s (put s p (linkChangeOn (phyAt s p) .phy) (originate (s .changes))) (linkChange s p)
+    → TakenEnds (linkChangeRefusals s p) s (put s p (linkChangeOn (phyAt s p) .phy) (originate (s .changes))) (linkChange s p)
 unfolding linkChange changeOn
 every-link-change s p =
     let new : Shelf = put s p (linkChangeOn (phyAt s p) .phy) (originate (s .changes)) in
-    subst (λ t. TakenEnds (phyRefusal s p ∷ []) 7 s t (linkChange s p))
+    subst (λ t. TakenEnds (linkChangeRefusals s p) s t (linkChange s p))
     (ap (putStore new) (change-stores (s .store) p (phyAt s p .enabled) (phyAt s p)))
-    (every-taken (phyRefusal s p ∷ []) 7 (linkChangeTaken (exists s p)) s _ (link-change-gives s p))
+    (every-taken (linkChangeRefusals s p) (linkChangeTaken (exists s p)) s _ (link-change-gives s p))
 
 -- ---- A reach query is refused with H4, or answered with both numbers; a device notice is always done.
 

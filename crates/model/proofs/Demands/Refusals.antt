@@ -3,8 +3,8 @@
 use Prim.Native.Nat.{ℕ, _≤_, _<_}
 use native.Mathlib.Omega.{arith}
 use mathlib.Core.Path.{_≡_, refl}
-use mathlib.Core.Logic.{_↔_, _⊎_, Iff·rfl, Iff·trans}
-use mathlib.Core.Bool.{not}
+use mathlib.Core.Logic.{_↔_, _⊎_, inl, inr, Iff·rfl, Iff·trans}
+use mathlib.Core.Bool.{Bool, not, _||_}
 use mathlib.Core.List.{List, [], _∷_}
 use lib.Dec.{T, ltb, eqb}
 use lib.ListN.{length, getD}
@@ -12,66 +12,71 @@ use Rattle.model.specs.declared.Shelf.{Shelf}
 use Rattle.model.specs.Bytes.{byte}
 use Rattle.model.specs.House.{takenNumber, answerNumber, queryNumber}
 use Rattle.model.specs.Reach.{reachQuery}
-use Rattle.model.specs.Reports.{eventTaken, event, linkChangeTaken, linkChange}
-use Rattle.model.specs.Request.{badFrame}
+use Rattle.model.specs.Reports.{amountTooLarge, eventTaken, event, linkChangeTaken, linkChange}
+use Rattle.model.specs.Request.{cutFrame, wrongFrame}
 use Rattle.model.specs.Server.{leastBuffer, Handled, answer, lent, served, lentAfter}
 use Rattle.model.specs.Shelf.{exists, noShelf, groupsFit, startTaken, start}
 use Rattle.model.specs.Sources.{supported}
 use Rattle.model.specs.Tests.{within}
 use Rattle.model.specs.Zone.{zoneGroup, legalTable}
 use Rattle.model.proofs.Laws.Checks.{outcome-taken, outcome-stays}
+use Rattle.model.proofs.Laws.Drawn.{nothing, tell}
 use Rattle.model.proofs.Laws.Handled.{concluded, handled, concluded-all, handled-all}
-use Rattle.model.proofs.Laws.Lowest.{Gives, firstGiven, row-gives}
-use Rattle.model.proofs.Laws.Tests.{check-map, denied-iff, either-iff, above-iff, ltb-iff, eqb-iff, within-iff}
-use Rattle.model.proofs.Laws.Tests.{some-below-iff}
-use Rattle.model.proofs.Plain.Reports.{amount-iff, eventTests, event-number, link-change-number}
-use Rattle.model.proofs.Plain.Request.{bad-frame}
+use Rattle.model.proofs.Laws.Lowest.{Applies, Gives, firstGiven, row-gives}
+use Rattle.model.proofs.Laws.Tests.{check-map, denied-iff, unless-iff, either-iff, above-iff, ltb-iff, eqb-iff}
+use Rattle.model.proofs.Laws.Tests.{within-iff, some-below-iff, not-above}
+use Rattle.model.proofs.Plain.Reports.{amount-iff, eventTests, event-number, phyTests, link-change-number}
+use Rattle.model.proofs.Plain.Request.{cut-frame, wrong-frame}
 use Rattle.model.proofs.Plain.Start.{startTests, start-number}
 use Rattle.model.proofs.Plain.Zone.{LegalTable, legal-table}
 
 -- ---- "Given exactly when": the table, in three parts and a line to a line
 
 -- H1 to H3, of a start: "phy number not 1 to 24"; "a phy's group is above 31"; "table not legal"
-abbrev pub startRefusals : ℕ → List ℕ → List ℕ → List (Type 0)
+abbrev pub startRefusals : ℕ → List ℕ → List ℕ → List (ℕ × Type 0)
 startRefusals n groups table =
-    ((1 ≤ n) × (n ≤ 24) → ⊥)
-    ∷ ((p : ℕ) × (p < n) × (31 < getD groups p 0))
-    ∷ (LegalTable table → ⊥)
+    (1, (1 ≤ n) × (n ≤ 24) → ⊥)
+    ∷ (2, (p : ℕ) × (p < n) × (31 < getD groups p 0))
+    ∷ (3, LegalTable table → ⊥)
     ∷ []
 
--- H4 to H6, of a request: "source group above 31"; "response buffer shorter than 1,028 bytes"; "request under 4 bytes, or first byte
--- not 40h". Of a reach query, H4 alone.
-abbrev pub sourceRefusal : ℕ → Type 0
-sourceRefusal g = 31 < g
-
-abbrev pub requestRefusals : ℕ → List ℕ → List ℕ → List (Type 0)
+-- H4 to H6, of a request: "source group above 31"; "response buffer shorter than 1,028 bytes"; "request under 4 bytes", of which by #103
+-- "or first byte not 40h" is H10. Of a reach query, H4 alone.
+abbrev pub requestRefusals : ℕ → List ℕ → List ℕ → List (ℕ × Type 0)
 requestRefusals g frame out =
-    sourceRefusal g
-    ∷ (length out < leastBuffer)
-    ∷ ((length frame < 4) ⊎ (byte frame 0 ≡ 0x40 → ⊥))
+    (4, 31 < g)
+    ∷ (5, length out < leastBuffer)
+    ∷ (6, length frame < 4)
+    ∷ (10, byte frame 0 ≡ 0x40 → ⊥)
     ∷ []
+
+abbrev pub queryRefusals : ℕ → List (ℕ × Type 0)
+queryRefusals g = (4, 31 < g) ∷ []
 
 -- H7 to H9, of an event report: "phy does not exist"; "event source 00h or unsupported"; "amount above FFh for 2Bh, or above FFFFh
 -- for 2Ch". Of a link change, H7 alone.
-abbrev pub phyRefusal : Shelf → ℕ → Type 0
-phyRefusal s p = T (exists s p) → ⊥
-
-abbrev pub eventRefusals : Shelf → ℕ → ℕ → ℕ → List (Type 0)
+abbrev pub eventRefusals : Shelf → ℕ → ℕ → ℕ → List (ℕ × Type 0)
 eventRefusals s p source amount =
-    phyRefusal s p
-    ∷ ((source ≡ 0x00) ⊎ (T (supported source) → ⊥))
-    ∷ (((source ≡ 0x2B) × (0xFF < amount)) ⊎ ((source ≡ 0x2C) × (0xFFFF < amount)))
+    (7, T (exists s p) → ⊥)
+    ∷ (8, (source ≡ 0x00) ⊎ (T (supported source) → ⊥))
+    ∷ (9, ((source ≡ 0x2B) × (0xFF < amount)) ⊎ ((source ≡ 0x2C) × (0xFFFF < amount)))
     ∷ []
+
+abbrev pub linkChangeRefusals : Shelf → ℕ → List (ℕ × Type 0)
+linkChangeRefusals s p = (7, T (exists s p) → ⊥) ∷ []
 
 -- ---- "The lowest number that applies is given."
 
 pub start-gives : (n : ℕ) (groups table identifier : List ℕ)
-    → Gives (startRefusals n groups table) 1 (takenNumber (start n groups table identifier .taken))
+    → Gives (startRefusals n groups table) (takenNumber (start n groups table identifier .taken))
 unfolding start
 start-gives n groups table identifier =
     rw (outcome-taken, start-number n groups table)
-    (row-gives (startTests n groups table) (startRefusals n groups table) 1 (omega arith)
-    (denied-iff (within 1 24 n) (within-iff 1 24 n), (some-group-iff, (denied-iff (legalTable table) (legal-table table), tt))))
+    (row-gives (startTests n groups table) (startRefusals n groups table) (omega arith, (omega arith, (omega arith, tt)))
+    (tell (unless-iff (not (within 1 24 n)) (denied-iff (within 1 24 n) (within-iff 1 24 n)))
+    (tell (unless-iff (not (groupsFit n groups)) some-group-iff)
+    (tell (unless-iff (not (legalTable table)) (denied-iff (legalTable table) (legal-table table)))
+    nothing))))
   where
     some-group-iff : T (not (groupsFit n groups))
         ↔ ((p : ℕ) × (p < n) × (31 < getD groups p 0))
@@ -81,10 +86,14 @@ start-gives n groups table identifier =
           λ h. (h .0, h .1, above-iff (getD groups (h .0) 0) 31 .1 (h .2)),
         )
 
--- nothing after H6 refuses
+-- the same as tests; nothing after H10 refuses
+abbrev requestTests : ℕ → List ℕ → List ℕ → List (ℕ × Bool)
+requestTests g frame out =
+    (4, ltb 31 g) ∷ (5, ltb (length out) leastBuffer) ∷ (6, cutFrame frame) ∷ (10, wrongFrame frame) ∷ []
+
 request-number : (s : Shelf) (g : ℕ) (frame out : List ℕ)
     → answerNumber (served s g frame out .answer)
-    ≡ firstGiven (ltb 31 g ∷ ltb (length out) leastBuffer ∷ badFrame frame ∷ []) 4
+    ≡ firstGiven (requestTests g frame out)
 unfolding served
 request-number s g frame out = rw (handled s g frame (length out)) (simp (check-map number, answered))
   where
@@ -95,38 +104,90 @@ request-number s g frame out = rw (handled s g frame (length out)) (simp (check-
     answered = concluded-all (λ h. number h ≡ 0) s g frame refl (λ e. refl)
 
 pub request-gives : (s : Shelf) (g : ℕ) (frame out : List ℕ)
-    → Gives (requestRefusals g frame out) 4 (answerNumber (served s g frame out .answer))
+    → Gives (requestRefusals g frame out) (answerNumber (served s g frame out .answer))
 request-gives s g frame out =
     rw (request-number s g frame out)
-    (row-gives (ltb 31 g ∷ ltb (length out) leastBuffer ∷ badFrame frame ∷ []) (requestRefusals g frame out) 4 (omega arith)
-    (ltb-iff 31 g, (ltb-iff (length out) leastBuffer, (bad-frame frame, tt))))
+    (row-gives (requestTests g frame out) (requestRefusals g frame out)
+    (omega arith, (omega arith, (omega arith, (omega arith, tt))))
+    (tell (unless-iff (ltb 31 g) (ltb-iff 31 g))
+    (tell (unless-iff (ltb (length out) leastBuffer) (ltb-iff (length out) leastBuffer))
+    (tell (unless-iff (cutFrame frame) (cut-frame frame))
+    (tell (unless-iff (wrongFrame frame) (wrong-frame frame))
+    nothing)))))
+
+-- #103, "Tell a cut frame from a wrong one": from a zone group, with room for the response, H6 is given exactly for a frame of under four
+-- bytes, and H10 exactly for one of four or more whose first byte is not 40h.
+module _ (s : Shelf) (g : ℕ) (frame out : List ℕ) where
+  by-refusal : {P : Type 0} (k : ℕ) → Applies (requestRefusals g frame out) k
+      → (k ≡ 4 → 31 < g → P) → (k ≡ 5 → length out < leastBuffer → P) → (k ≡ 6 → length frame < 4 → P)
+      → (k ≡ 10 → (byte frame 0 ≡ 0x40 → ⊥) → P) → P
+  by-refusal k (inl (e, h)) p4 p5 p6 p10 = p4 e h
+  by-refusal k (inr (inl (e, h))) p4 p5 p6 p10 = p5 e h
+  by-refusal k (inr (inr (inl (e, h)))) p4 p5 p6 p10 = p6 e h
+  by-refusal k (inr (inr (inr (inl (e, h))))) p4 p5 p6 p10 = p10 e h
+  by-refusal k (inr (inr (inr (inr none)))) p4 p5 p6 p10 = absurd none
+
+  pub cut-told : (answerNumber (served s g frame out .answer) ≡ 6)
+      ↔ ((g ≤ 31) × (leastBuffer ≤ length out) × (length frame < 4))
+  cut-told = (
+    λ e.
+        let (applies, least) = request-gives s g frame out .each 6 .0 (omega arith, e) in (
+          not-above (λ h. least 4 (omega arith) (inl (refl, h))),
+          not-above (λ h. least 5 (omega arith) (inr (inl (refl, h)))),
+          by-refusal 6 applies (λ e h. absurd (omega arith)) (λ e h. absurd (omega arith)) (λ e h. h) (λ e h. absurd (omega arith)),
+        ),
+    λ (group, room, cut).
+        request-gives s g frame out .each 6 .1 (
+          inr (inr (inl (refl, cut))),
+          λ j below there.
+              by-refusal j there (λ e h. omega arith) (λ e h. omega arith) (λ e h. omega arith) (λ e h. omega arith),
+        ) .1,
+  )
+
+  pub wrong-told : (answerNumber (served s g frame out .answer) ≡ 10)
+      ↔ ((g ≤ 31) × (leastBuffer ≤ length out) × (4 ≤ length frame) × (byte frame 0 ≡ 0x40 → ⊥))
+  wrong-told = (
+    λ e.
+        let (applies, least) = request-gives s g frame out .each 10 .0 (omega arith, e) in (
+          not-above (λ h. least 4 (omega arith) (inl (refl, h))),
+          not-above (λ h. least 5 (omega arith) (inr (inl (refl, h)))),
+          not-above (λ h. least 6 (omega arith) (inr (inr (inl (refl, h))))),
+          by-refusal 10 applies (λ e h. absurd (omega arith)) (λ e h. absurd (omega arith)) (λ e h. absurd (omega arith)) (λ e h. h),
+        ),
+    λ (group, room, whole, wrong).
+        request-gives s g frame out .each 10 .1 (
+          inr (inr (inr (inl (refl, wrong)))),
+          λ j below there.
+              by-refusal j there (λ e h. omega arith) (λ e h. omega arith) (λ e h. omega arith) (λ e h. omega arith),
+        ) .1,
+  )
 
 pub event-gives : (s : Shelf) (p source amount : ℕ)
-    → Gives (eventRefusals s p source amount) 7 (takenNumber (event s p source amount .taken))
+    → Gives (eventRefusals s p source amount) (takenNumber (event s p source amount .taken))
 unfolding event
 event-gives s p source amount =
     rw (outcome-taken, event-number s p source amount)
-    (row-gives (eventTests s p source amount) (eventRefusals s p source amount) 7 (omega arith) (
-      denied-iff (exists s p) Iff·rfl,
-      (
-        either-iff (eqb source 0x00) (not (supported source)) (eqb-iff source 0x00)
-            (denied-iff (supported source) Iff·rfl),
-        (amount-iff source amount, tt),
-      ),
-    ))
+    (row-gives (eventTests s p source amount) (eventRefusals s p source amount) (omega arith, (omega arith, (omega arith, tt)))
+    (tell (unless-iff (not (exists s p)) (denied-iff (exists s p) Iff·rfl))
+    (tell
+    (unless-iff (eqb source 0x00 || not (supported source))
+    (either-iff (eqb source 0x00) (not (supported source)) (eqb-iff source 0x00) (denied-iff (supported source) Iff·rfl)))
+    (tell (unless-iff (amountTooLarge source amount) (amount-iff source amount))
+    nothing))))
 
 pub link-change-gives : (s : Shelf) (p : ℕ)
-    → Gives (phyRefusal s p ∷ []) 7 (takenNumber (linkChange s p .taken))
+    → Gives (linkChangeRefusals s p) (takenNumber (linkChange s p .taken))
 unfolding linkChange
 link-change-gives s p =
     rw (outcome-taken, link-change-number (exists s p))
-    (row-gives (not (exists s p) ∷ []) (phyRefusal s p ∷ []) 7 (omega arith) (denied-iff (exists s p) Iff·rfl, tt))
+    (row-gives (phyTests (exists s p)) (linkChangeRefusals s p) (omega arith, tt)
+    (tell (unless-iff (not (exists s p)) (denied-iff (exists s p) Iff·rfl)) nothing))
 
-pub query-gives : (s : Shelf) (g : ℕ) → Gives (sourceRefusal g ∷ []) 4 (queryNumber (reachQuery s g))
+pub query-gives : (s : Shelf) (g : ℕ) → Gives (queryRefusals g) (queryNumber (reachQuery s g))
 unfolding reachQuery
 query-gives s g =
     simp (check-map queryNumber)
-    (row-gives (ltb 31 g ∷ []) (sourceRefusal g ∷ []) 4 (omega arith) (ltb-iff 31 g, tt))
+    (row-gives ((4, ltb 31 g) ∷ []) (queryRefusals g) (omega arith, tt) (tell (unless-iff (ltb 31 g) (ltb-iff 31 g)) nothing))
 
 -- ---- "The answer holds the number and nothing else; state and buffer stay. A refused start gives no device."
 

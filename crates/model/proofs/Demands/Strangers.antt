@@ -1,12 +1,12 @@
 -- What a stranger does and learns: demand 3 says nothing of that by itself. A request about a phy that its source does not reach leaves
 -- the shelf, and its answer depends on the function, the length, the count and the phy's existence, so it tells nothing of its contents;
--- a group other than 1 learns nothing by 21h; no request changes a phy out of its source's reach; a report changes its own phy alone.
--- Assumes nothing.
-use Prim.Native.Nat.{ℕ, _≤_}
+-- a group other than 1 learns nothing by 21h; a frame that is cut, or does not begin with 40h, learns nothing at all; no request changes
+-- a phy out of its source's reach; a report changes its own phy alone. Assumes nothing.
+use Prim.Native.Nat.{ℕ, _≤_, _<_}
 use native.Mathlib.Nat.{eq-zero-or-pos}
 use native.Mathlib.Omega.{arith}
 use mathlib.Core.Path.{_≡_, refl, ap, _∙_}
-use mathlib.Core.Logic.{⊎-elim}
+use mathlib.Core.Logic.{_⊎_, inl, inr, ⊎-elim}
 use mathlib.Core.Bool.{Bool, false, cond, _||_}
 use mathlib.Core.List.{List, [], _∷_, List·Memᴰ·head, List·Memᴰ·tail}
 use borrow.Author.Tests.{ne-eqb}
@@ -19,14 +19,15 @@ use Rattle.model.specs.Reach.{reaches}
 use Rattle.model.specs.Reports.{eventTaken, event, linkChangeTaken, linkChange, reducedFunctionality, sesNotice}
 use Rattle.model.specs.Request.{functionOf, known, lengthRight, asked}
 use Rattle.model.specs.Results.{resultCode, grounds}
-use Rattle.model.specs.Server.{served, lentAfter}
+use Rattle.model.specs.Server.{answer, served, lentAfter}
 use Rattle.model.specs.Shelf.{exists, phyAt}
 use Rattle.model.specs.Tests.{check, oneOf}
 use Rattle.model.specs.Writes.{Doing, Reads, WritesTo, doing, done, effect}
-use Rattle.model.proofs.Demands.Refusals.{request-refusal}
+use Rattle.model.proofs.Demands.Refusals.{requestRefusals, request-gives, request-refusal}
 use Rattle.model.proofs.Demands.Results.{Of, NotRefused, countPasses, verdict-checks, result-byte, Failed, failed-result}
 use Rattle.model.proofs.Laws.Checks.{Granting, every-outcome}
-use Rattle.model.proofs.Laws.Handled.{verdict, handled-all, accepted-decided}
+use Rattle.model.proofs.Laws.Handled.{verdict, concluded, both-handled, concluded-all, handled-all, accepted-decided}
+use Rattle.model.proofs.Laws.Lowest.{Applies}
 use Rattle.model.proofs.Laws.PhyChanges.{OfWrite, write-granted}
 use Rattle.model.proofs.Laws.Tests.{is-false, by-each, check-both, cond-both}
 use Rattle.model.proofs.Plain.Request.{phyFunctions}
@@ -131,6 +132,46 @@ list-tells-nothing s t g h frame frame′ out answered answered′ e e′ other 
     let another : Failed t h frame′ out (listCode frame′) = list-refused t h frame′ out answered′ e′ other′ in
     let code : listCode frame ≡ listCode frame′ = ap (λ b. check b 0x03 0x21) lengths in
     (cc, cc (one .left, another .left, code, e, e′))
+
+-- ---- H6 and H10 (#103): a frame that is cut, or wrong, learns nothing.
+
+-- A house refusal of a request is the same on every shelf.
+pub refused-alike : (s t : Shelf) (g : ℕ) (frame out : List ℕ) → 1 ≤ answerNumber (served s g frame out .answer)
+    → served s g frame out .answer ≡ served t g frame out .answer
+unfolding served
+refused-alike s t g frame out =
+    both-handled (λ x y. 1 ≤ answerNumber (answer (x .reply)) → answer (x .reply) ≡ answer (y .reply)) s t g frame (length out)
+    (λ house refused. refl)
+    (concluded-all (λ x. 1 ≤ answerNumber (answer (x .reply)) → answer (x .reply) ≡ answer (concluded t g frame .reply)) s g frame
+    (λ refused. absurd (omega arith))
+    (λ e refused. absurd (omega arith)))
+
+-- "under 4 bytes", or "first byte not 40h"
+abbrev pub NoRequest : List ℕ → Type 0
+NoRequest frame = (length frame < 4) ⊎ (byte frame 0 ≡ 0x40 → ⊥)
+
+no-request-refused : (s : Shelf) (g : ℕ) (frame out : List ℕ) → NoRequest frame → 1 ≤ answerNumber (served s g frame out .answer)
+no-request-refused s g frame out no-request =
+    ⊎-elim
+    (λ answered.
+    absurd
+    (⊎-elim (λ cut. none answered 6 (inr (inr (inl (refl, cut)))))
+    (λ wrong. none answered 10 (inr (inr (inr (inl (refl, wrong))))))
+    no-request))
+    (λ refused. refused)
+    (eq-zero-or-pos (answerNumber (served s g frame out .answer)))
+  where
+    none : NotRefused s g frame out → (k : ℕ) → Applies (requestRefusals g frame out) k → ⊥
+    none = request-gives s g frame out .none .0
+
+-- So whatever else it says, wherever it comes from and whatever is lent, it draws the same answer from every shelf, and leaves the shelf
+-- and the buffer as they were.
+pub no-request-learns-nothing : (s t : Shelf) (g : ℕ) (frame out : List ℕ) → NoRequest frame
+    → (served s g frame out .answer ≡ served t g frame out .answer) × (served s g frame out .shelf ≡ s) × (lentAfter s g frame out ≡ out)
+no-request-learns-nothing s t g frame out no-request =
+    let refused = no-request-refused s g frame out no-request in
+    let (shelf, buffer) = request-refusal s g frame out refused in
+    (refused-alike s t g frame out refused, shelf, buffer)
 
 -- ---- No request of a group changes any number of a phy that the group does not reach.
 

@@ -10,7 +10,7 @@ use Rattle.model.specs.declared.FunctionResult.the-variants.{PhyVacant, 
 use Rattle.model.specs.declared.Grounds.{Grounds}
 use Rattle.model.specs.declared.House.{House}
 use Rattle.model.specs.declared.House.the-variants.{PhyNumber, PhyGroup, IllegalTable, SourceGroup, ShortBuffer}
-use Rattle.model.specs.declared.House.the-variants.{BadFrame, NoSuchPhy, EventSource, Amount}
+use Rattle.model.specs.declared.House.the-variants.{CutFrame, NoSuchPhy, EventSource, Amount, WrongFrame}
 use Rattle.model.specs.declared.Shelf.{Shelf}
 use Rattle.model.specs.declared.Taken.{Taken}
 use Rattle.model.specs.declared.Taken.the-variants.{Done, NotDone}
@@ -26,10 +26,11 @@ house-some PhyGroup = omega arith
 house-some IllegalTable = omega arith
 house-some SourceGroup = omega arith
 house-some ShortBuffer = omega arith
-house-some BadFrame = omega arith
+house-some CutFrame = omega arith
 house-some NoSuchPhy = omega arith
 house-some EventSource = omega arith
 house-some Amount = omega arith
+house-some WrongFrame = omega arith
 
 -- so what is told is done exactly if its number is 0
 pub done-iff : (taken : Taken) → (taken ≡ Done) ↔ (takenNumber taken ≡ 0)

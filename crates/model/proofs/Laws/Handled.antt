@@ -1,4 +1,4 @@
--- The whole way of a request in one row: H4, H5, H6, then the result, then the response with its effect, or the failure with none.
+-- The whole way of a request in one row: H4, H5, H6, H10, then the result, then the response with its effect, or the failure with none.
 -- Assumes nothing.
 use Prim.Native.Nat.{ℕ}
 use native.Mathlib.Omega.{arith}
@@ -9,11 +9,11 @@ use lib.Dec.{ltb}
 use Rattle.model.specs.declared.FunctionResult.{FunctionResult}
 use Rattle.model.specs.declared.FunctionResult.the-variants.{UnknownSmpFunction, InvalidRequestFrameLength}
 use Rattle.model.specs.declared.House.{House}
-use Rattle.model.specs.declared.House.the-variants.{SourceGroup, ShortBuffer, BadFrame}
+use Rattle.model.specs.declared.House.the-variants.{SourceGroup, ShortBuffer, CutFrame, WrongFrame}
 use Rattle.model.specs.declared.Judged.the-variants.{Asked, NoFrame, Fails}
 use Rattle.model.specs.declared.Shelf.{Shelf}
 use Rattle.model.specs.Reply.{failed, respond}
-use Rattle.model.specs.Request.{badFrame, functionOf, known, lengthRight, asked, judge}
+use Rattle.model.specs.Request.{cutFrame, wrongFrame, functionOf, known, lengthRight, asked, judge}
 use Rattle.model.specs.Results.{resultCode, accepted, decide}
 use Rattle.model.specs.Server.{leastBuffer, Handled, Sends, refuse, fail, conclude, handleJudged, handle}
 use Rattle.model.specs.Tests.{check, given}
@@ -35,32 +35,39 @@ abbrev pub concluded : Shelf → ℕ → List ℕ → Handled
 concluded s g frame = conclude s g frame (asked frame) (verdict s g frame)
 
 judged : (s : Shelf) (g : ℕ) (frame : List ℕ)
-    → handleJudged s g frame (judge frame) ≡ given (badFrame frame) (refuse s BadFrame) (concluded s g frame)
+    → handleJudged s g frame (judge frame)
+    ≡ given (cutFrame frame) (refuse s CutFrame)
+    (given (wrongFrame frame) (refuse s WrongFrame)
+    (concluded s g frame))
 unfolding judge verdict
-judged s g frame = go (badFrame frame) (known (functionOf frame)) (lengthRight frame)
+judged s g frame = go (cutFrame frame) (wrongFrame frame) (known (functionOf frame)) (lengthRight frame)
   where
-    go : (bad known′ right : Bool)
+    go : (cut wrong known′ right : Bool)
         → handleJudged s g frame
-        (given bad (NoFrame BadFrame)
+        (given cut (NoFrame CutFrame)
+        (given wrong (NoFrame WrongFrame)
         (check known′ (Fails UnknownSmpFunction)
         (check right (Fails InvalidRequestFrameLength)
-        (Asked (asked frame)))))
-        ≡ given bad (refuse s BadFrame)
+        (Asked (asked frame))))))
+        ≡ given cut (refuse s CutFrame)
+        (given wrong (refuse s WrongFrame)
         (conclude s g frame (asked frame)
         (check known′ UnknownSmpFunction
         (check right InvalidRequestFrameLength
-        (decide s g frame (asked frame)))))
-    go true known′ right = refl
-    go false false right = refl
-    go false true false = refl
-    go false true true = refl
+        (decide s g frame (asked frame))))))
+    go true wrong known′ right = refl
+    go false true known′ right = refl
+    go false false false right = refl
+    go false false true false = refl
+    go false false true true = refl
 
 pub handled : (s : Shelf) (g : ℕ) (frame : List ℕ) (room : ℕ)
     → handle s g frame room
     ≡ given (ltb 31 g) (refuse s SourceGroup)
     (given (ltb room leastBuffer) (refuse s ShortBuffer)
-    (given (badFrame frame) (refuse s BadFrame)
-    (concluded s g frame)))
+    (given (cutFrame frame) (refuse s CutFrame)
+    (given (wrongFrame frame) (refuse s WrongFrame)
+    (concluded s g frame))))
 unfolding handle
 handled s g frame room = rw (judged s g frame)
 
@@ -70,16 +77,22 @@ module _ (P : Handled → Handled → Type 0) (s t : Shelf) (g : ℕ) (frame : L
   pub both-handled : (room : ℕ) → ((house : House) → P (refuse s house) (refuse t house))
       → P (concluded s g frame) (concluded t g frame) → P (handle s g frame room) (handle t g frame room)
   both-handled room refused rest =
-      rw (handled s g frame room, handled t g frame room) (go (ltb 31 g) (ltb room leastBuffer) (badFrame frame))
+      rw (handled s g frame room, handled t g frame room) (go (ltb 31 g) (ltb room leastBuffer) (cutFrame frame) (wrongFrame frame))
     where
-      go : (a b c : Bool)
-          → P
-          (given a (refuse s SourceGroup) (given b (refuse s ShortBuffer) (given c (refuse s BadFrame) (concluded s g frame))))
-          (given a (refuse t SourceGroup) (given b (refuse t ShortBuffer) (given c (refuse t BadFrame) (concluded t g frame))))
-      go true b c = refused SourceGroup
-      go false true c = refused ShortBuffer
-      go false false true = refused BadFrame
-      go false false false = rest
+      row : Shelf → Bool → Bool → Bool → Bool → Handled
+      row x a b c d =
+          given a (refuse x SourceGroup)
+          (given b (refuse x ShortBuffer)
+          (given c (refuse x CutFrame)
+          (given d (refuse x WrongFrame)
+          (concluded x g frame))))
+
+      go : (a b c d : Bool) → P (row s a b c d) (row t a b c d)
+      go true b c d = refused SourceGroup
+      go false true c d = refused ShortBuffer
+      go false false true d = refused CutFrame
+      go false false false true = refused WrongFrame
+      go false false false false = rest
 
   -- the same result on both: failed, or accepted
   pub both-concluded : verdict s g frame ≡ verdict t g frame

@@ -59,16 +59,19 @@ amounts-iff source amount = (
 )
 
 -- what an event report and a link change are told, as the first of these tests that holds
-abbrev pub eventTests : Shelf → ℕ → ℕ → ℕ → List Bool
+abbrev pub eventTests : Shelf → ℕ → ℕ → ℕ → List (ℕ × Bool)
 eventTests s p source amount =
-    not (exists s p) ∷ (eqb source 0x00 || not (supported source)) ∷ amountTooLarge source amount ∷ []
+    (7, not (exists s p)) ∷ (8, eqb source 0x00 || not (supported source)) ∷ (9, amountTooLarge source amount) ∷ []
+
+abbrev pub phyTests : Bool → List (ℕ × Bool)
+phyTests there = (7, not there) ∷ []
 
 pub event-number : (s : Shelf) (p source amount : ℕ)
-    → takenNumber (eventTaken (exists s p) source amount) ≡ firstGiven (eventTests s p source amount) 7
+    → takenNumber (eventTaken (exists s p) source amount) ≡ firstGiven (eventTests s p source amount)
 unfolding eventTaken
 event-number s p source amount = simp (check-map takenNumber)
 
-pub link-change-number : (there : Bool) → takenNumber (linkChangeTaken there) ≡ firstGiven (not there ∷ []) 7
+pub link-change-number : (there : Bool) → takenNumber (linkChangeTaken there) ≡ firstGiven (phyTests there)
 link-change-number there = simp (check-map takenNumber)
 
 pub event-done : (s : Shelf) (p source amount : ℕ)
@@ -77,7 +80,7 @@ pub event-done : (s : Shelf) (p source amount : ℕ)
 event-done s p source amount =
     Iff·trans (done-iff (eventTaken (exists s p) source amount))
     (rw (event-number s p source amount)
-    (Iff·trans (none-given (eventTests s p source amount) 7 (omega arith)) (
+    (Iff·trans (none-given (eventTests s p source amount) tt) (
       λ h.
           let (fits-2B, fits-2C) = amounts-iff source amount .0 (h .1 .1 .0) in
           record {
@@ -101,5 +104,5 @@ unfolding linkChange
 link-change-done s p =
     Iff·trans (done-iff (linkChange s p .taken))
     (rw (outcome-taken, link-change-number (exists s p))
-    (Iff·trans (none-given (not (exists s p) ∷ []) 7 (omega arith))
+    (Iff·trans (none-given (phyTests (exists s p)) tt)
     (λ h. not-not-iff (exists s p) .0 (h .0), λ t. (not-not-iff (exists s p) .1 t, tt))))

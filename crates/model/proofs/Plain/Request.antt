@@ -1,4 +1,4 @@
--- When a frame is bad, of a known function and of a right length, what is asked, by the function, and which descriptor is the first
+-- When a frame is cut, wrong, of a known function and of a right length, what is asked, by the function, and which descriptor is the first
 -- unsupported one, in plain logic. Assumes nothing.
 use Prim.Native.Nat.{ℕ, zero, suc, _+_, _*_, _≤_, _<_, zero-le}
 use native.Mathlib.Nat.{eq-or-lt-of-le, not-le-of-lt}
@@ -14,18 +14,21 @@ use Rattle.model.specs.declared.Request.the-variants.{ReportGeneral, Rep
 use Rattle.model.specs.declared.Request.the-variants.{ReportPhyErrorLog, ReportPhyEvent, PhyControl}
 use Rattle.model.specs.declared.Request.the-variants.{ReportPhyEventList, ConfigurePhyEvent}
 use Rattle.model.specs.Bytes.{byte, word}
-use Rattle.model.specs.Request.{badFrame, functionOf, known, shaped, lengthRight, clears, asked, descriptorSource, allowed}
+use Rattle.model.specs.Request.{cutFrame, wrongFrame, functionOf, known, shaped, lengthRight, clears, asked, descriptorSource, allowed}
 use Rattle.model.specs.Request.{firstUnsupported}
 use Rattle.model.specs.Sources.{supported}
 use Rattle.model.specs.Tests.{oneOf}
 use Rattle.model.proofs.Laws.Tests.{denied-iff, both-iff, all-three-iff, either-iff, ltb-iff, eqb-iff, oneOf-iff, by-each, cond-by}
 
--- H6: under four bytes, or the first is not 40h
-pub bad-frame : (frame : List ℕ) → T (badFrame frame) ↔ ((length frame < 4) ⊎ (byte frame 0 ≡ 0x40 → ⊥))
-unfolding badFrame
-bad-frame frame =
-    either-iff (ltb (length frame) 4) (not (eqb (byte frame 0) 0x40)) (ltb-iff (length frame) 4)
-    (denied-iff (eqb (byte frame 0) 0x40) (eqb-iff (byte frame 0) 0x40))
+-- H6: under four bytes
+pub cut-frame : (frame : List ℕ) → T (cutFrame frame) ↔ (length frame < 4)
+unfolding cutFrame
+cut-frame frame = ltb-iff (length frame) 4
+
+-- H10: the first byte is not 40h
+pub wrong-frame : (frame : List ℕ) → T (wrongFrame frame) ↔ (byte frame 0 ≡ 0x40 → ⊥)
+unfolding wrongFrame
+wrong-frame frame = denied-iff (eqb (byte frame 0) 0x40) (eqb-iff (byte frame 0) 0x40)
 
 -- the eight functions, and the four of them with a phy
 abbrev pub knownFunctions : List ℕ

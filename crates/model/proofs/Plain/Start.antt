@@ -32,11 +32,11 @@ groups-iff n groups =
     (λ f p h. leb-iff (getD groups p 0) 31 .0 (f p h), λ f p h. leb-iff (getD groups p 0) 31 .1 (f p h))
 
 -- what a start is told, as the first of these tests that holds
-abbrev pub startTests : ℕ → List ℕ → List ℕ → List Bool
-startTests n groups table = not (within 1 24 n) ∷ not (groupsFit n groups) ∷ not (legalTable table) ∷ []
+abbrev pub startTests : ℕ → List ℕ → List ℕ → List (ℕ × Bool)
+startTests n groups table = (1, not (within 1 24 n)) ∷ (2, not (groupsFit n groups)) ∷ (3, not (legalTable table)) ∷ []
 
 pub start-number : (n : ℕ) (groups table : List ℕ)
-    → takenNumber (startTaken n groups table) ≡ firstGiven (startTests n groups table) 1
+    → takenNumber (startTaken n groups table) ≡ firstGiven (startTests n groups table)
 unfolding startTaken
 start-number n groups table = simp (check-map takenNumber)
 
@@ -47,7 +47,7 @@ start-done n groups table =
     let legal = unless-iff (legalTable table) (legal-table table) in
     Iff·trans (done-iff (startTaken n groups table))
     (rw (start-number n groups table)
-    (Iff·trans (none-given (startTests n groups table) 1 (omega arith)) (
+    (Iff·trans (none-given (startTests n groups table) tt) (
       λ h. record { number = number .0 (h .0); groups-fit = fit .0 (h .1 .0); legal = legal .0 (h .1 .1 .0) },
       λ r. (number .1 (r .number), (fit .1 (r .groups-fit), (legal .1 (r .legal), tt))),
     )))
