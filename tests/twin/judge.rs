@@ -17,6 +17,20 @@ pub struct Judgement {
     pub wrong: Option<Wrong>,
 }
 
+impl Judgement {
+    /// As the number that C is told: the function in bits 0 to 7, the result in bits 8 to 15, the
+    /// house refusal in bits 16 to 23, and 1 in bits 24 to 31 where there is a function to tell.
+    pub fn told(&self) -> u32 {
+        let function = self.function.map_or(0, |function| 1 << 24 | u32::from(function));
+        let wrong = match self.wrong {
+            None => 0,
+            Some(Wrong::House(refusal)) => refusal << 16,
+            Some(Wrong::Result(result)) => u32::from(result) << 8,
+        };
+        function | wrong
+    }
+}
+
 pub fn judge(frame: &[u8]) -> Judgement {
     let function = frame.get(1).copied().filter(|_| frame.len() >= 4);
     let wrong = match function_of(frame) {

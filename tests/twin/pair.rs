@@ -4,7 +4,8 @@ use crate::host;
 use crate::operations::{Fill, Operation};
 use crate::random::Random;
 use crate::told;
-use crate::twin::{self, Shelf};
+use crate::twin::judge::judge;
+use crate::twin::Shelf;
 use crate::words::ShelfWords;
 
 /// The longest buffer that is lent, and bytes past it that nobody may touch.
@@ -120,7 +121,7 @@ impl Pair {
         };
         self.expected.lay(&self.twin);
         if let Operation::Serve { frame, .. } = operation {
-            let told = (host::judge(frame), told::judgement(twin::judge(frame)));
+            let told = (host::judge(frame), judge(frame).told());
             if told.0 != told.1 {
                 let place = Place::Judge { host: told.0, twin: told.1 };
                 return Err(Difference { host, twin, place });

@@ -1,6 +1,7 @@
 //! The thirteen cases of document 01's "Shelf W, for checking", and its "Easily got wrong"; then
-//! document 02's #101 on the same shelf.
+//! document 02's #101 and #103 on the same shelf.
 
+use super::judge::{judge, Judgement, Wrong};
 use super::*;
 
 /// "Four phys, groups 8, 8, 9, 1; row 8 has bits 1 and 8; row 9 bits 1 and 9; other rows from 2 up

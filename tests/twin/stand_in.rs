@@ -10,6 +10,7 @@ mod told;
 mod twin;
 mod words;
 
+use twin::judge::judge;
 use twin::Shelf;
 use words::ShelfWords;
 
@@ -89,7 +90,7 @@ pub unsafe extern "C" fn smp_reach(shelf: *const ShelfWords, source: u32) -> u32
 /// As firmware/smp_gate.h asks of C.
 #[no_mangle]
 pub unsafe extern "C" fn smp_judge_frame(frame: *const u8, size: usize) -> u32 {
-    told::judgement(twin::judge(slice::from_raw_parts(frame, size)))
+    judge(slice::from_raw_parts(frame, size)).told()
 }
 
 /// Reads the words, lets the twin change the shelf, and lays it back.

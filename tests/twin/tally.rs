@@ -2,7 +2,8 @@
 //! `ENOUGH` operations in which some kind of answer never occurred has failed.
 
 use crate::operations::Operation;
-use crate::twin::{self, is_counting, is_peak, Phy, Shelf, Store, Wrong};
+use crate::twin::judge::{judge, Wrong};
+use crate::twin::{is_counting, is_peak, Phy, Shelf, Store};
 
 pub const ENOUGH: u64 = 200_000;
 
@@ -186,7 +187,7 @@ impl Tally {
         if refusal == 10 {
             let mut request = frame.to_vec();
             request[0] = 0x40;
-            let wrong = twin::judge(&request).wrong;
+            let wrong = judge(&request).wrong;
             self.mark(if frame[0] == 0x41 { Mark::H10Response } else { Mark::H10Other }, true);
             self.mark(Mark::H10Unknown, wrong == Some(Wrong::Result(0x01)));
             self.mark(Mark::H10Length, wrong == Some(Wrong::Result(0x03)));

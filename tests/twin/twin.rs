@@ -8,12 +8,11 @@
 #![forbid(unsafe_code)]
 
 mod functions;
-mod judge;
+pub mod judge;
 #[cfg(test)]
 mod shelf_w;
 mod store;
 
-pub use judge::{judge, Judgement, Wrong};
 pub use store::{Entry, Store};
 
 /// "1 to 24 phys, numbered from 0."

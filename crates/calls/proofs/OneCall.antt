@@ -24,8 +24,7 @@ use Rattle.model.proofs.Demands.Results.{Failed, NotRefused, failed-result}
 use Rattle.model.proofs.Demands.Stored.{StoredTogether, placed-next-stored}
 use Rattle.model.proofs.Demands.Strangers.{listCode, list-refused, NoRequest, no-request-learns-nothing}
 use Rattle.model.proofs.Demands.Writes.{ControlPasses, ConfigurePasses, FullOrNone, placed-control-write, placed-configure-write}
-use Rattle.model.proofs.Laws.Drawn.{nothing}
-use Rattle.model.proofs.Laws.Lowest.{Gives, row-gives}
+use Rattle.model.proofs.Laws.Lowest.{Gives, no-more, row-gives}
 use Rattle.words.specs.Memory.{Memory}
 use Rattle.words.specs.Sizes.{shelfWords}
 use Rattle.words.specs.Words.{shelfOf, laidOver}
@@ -43,8 +42,8 @@ unfolding said
 said-gives s (Ask g frame out) = request-gives s g frame out
 said-gives s (Event p source amount) = event-gives s p source amount
 said-gives s (LinkChange p) = link-change-gives s p
-said-gives s ReducedFunctionality = row-gives [] [] tt nothing
-said-gives s Ses = row-gives [] [] tt nothing
+said-gives s ReducedFunctionality = row-gives [] [] tt no-more
+said-gives s Ses = row-gives [] [] tt no-more
 said-gives s (QueryReach g) = query-gives s g
 
 said-stays : (s : Shelf) (o : Operation) → 1 ≤ saidNumber (said s o) → (next s o ≡ s) × (bufferAfter s o ≡ lentBefore o)

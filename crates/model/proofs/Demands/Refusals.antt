@@ -4,7 +4,7 @@ use Prim.Native.Nat.{ℕ, _≤_, _<_}
 use native.Mathlib.Omega.{arith}
 use mathlib.Core.Path.{_≡_, refl}
 use mathlib.Core.Logic.{_↔_, _⊎_, inl, inr, Iff·rfl, Iff·trans}
-use mathlib.Core.Bool.{Bool, not, _||_}
+use mathlib.Core.Bool.{Bool, not}
 use mathlib.Core.List.{List, [], _∷_}
 use lib.Dec.{T, ltb, eqb}
 use lib.ListN.{length, getD}
@@ -12,7 +12,7 @@ use Rattle.model.specs.declared.Shelf.{Shelf}
 use Rattle.model.specs.Bytes.{byte}
 use Rattle.model.specs.House.{takenNumber, answerNumber, queryNumber}
 use Rattle.model.specs.Reach.{reachQuery}
-use Rattle.model.specs.Reports.{amountTooLarge, eventTaken, event, linkChangeTaken, linkChange}
+use Rattle.model.specs.Reports.{eventTaken, event, linkChangeTaken, linkChange}
 use Rattle.model.specs.Request.{cutFrame, wrongFrame}
 use Rattle.model.specs.Server.{leastBuffer, Handled, answer, lent, served, lentAfter}
 use Rattle.model.specs.Shelf.{exists, noShelf, groupsFit, startTaken, start}
@@ -20,10 +20,9 @@ use Rattle.model.specs.Sources.{supported}
 use Rattle.model.specs.Tests.{within}
 use Rattle.model.specs.Zone.{zoneGroup, legalTable}
 use Rattle.model.proofs.Laws.Checks.{outcome-taken, outcome-stays}
-use Rattle.model.proofs.Laws.Drawn.{nothing, tell}
 use Rattle.model.proofs.Laws.Handled.{concluded, handled, concluded-all, handled-all}
-use Rattle.model.proofs.Laws.Lowest.{Applies, Gives, firstGiven, row-gives}
-use Rattle.model.proofs.Laws.Tests.{check-map, denied-iff, unless-iff, either-iff, above-iff, ltb-iff, eqb-iff}
+use Rattle.model.proofs.Laws.Lowest.{Applies, Gives, firstGiven, no-more, says, row-gives}
+use Rattle.model.proofs.Laws.Tests.{check-map, denied-iff, either-iff, above-iff, ltb-iff, eqb-iff}
 use Rattle.model.proofs.Laws.Tests.{within-iff, some-below-iff, not-above}
 use Rattle.model.proofs.Plain.Reports.{amount-iff, eventTests, event-number, phyTests, link-change-number}
 use Rattle.model.proofs.Plain.Request.{cut-frame, wrong-frame}
@@ -72,11 +71,11 @@ pub start-gives : (n : ℕ) (groups table identifier : List ℕ)
 unfolding start
 start-gives n groups table identifier =
     rw (outcome-taken, start-number n groups table)
-    (row-gives (startTests n groups table) (startRefusals n groups table) (omega arith, (omega arith, (omega arith, tt)))
-    (tell (unless-iff (not (within 1 24 n)) (denied-iff (within 1 24 n) (within-iff 1 24 n)))
-    (tell (unless-iff (not (groupsFit n groups)) some-group-iff)
-    (tell (unless-iff (not (legalTable table)) (denied-iff (legalTable table) (legal-table table)))
-    nothing))))
+    (row-gives (startTests n groups table) (startRefusals n groups table) tt
+    (says (denied-iff (within 1 24 n) (within-iff 1 24 n))
+    (says some-group-iff
+    (says (denied-iff (legalTable table) (legal-table table))
+    no-more))))
   where
     some-group-iff : T (not (groupsFit n groups))
         ↔ ((p : ℕ) × (p < n) × (31 < getD groups p 0))
@@ -107,13 +106,12 @@ pub request-gives : (s : Shelf) (g : ℕ) (frame out : List ℕ)
     → Gives (requestRefusals g frame out) (answerNumber (served s g frame out .answer))
 request-gives s g frame out =
     rw (request-number s g frame out)
-    (row-gives (requestTests g frame out) (requestRefusals g frame out)
-    (omega arith, (omega arith, (omega arith, (omega arith, tt))))
-    (tell (unless-iff (ltb 31 g) (ltb-iff 31 g))
-    (tell (unless-iff (ltb (length out) leastBuffer) (ltb-iff (length out) leastBuffer))
-    (tell (unless-iff (cutFrame frame) (cut-frame frame))
-    (tell (unless-iff (wrongFrame frame) (wrong-frame frame))
-    nothing)))))
+    (row-gives (requestTests g frame out) (requestRefusals g frame out) tt
+    (says (ltb-iff 31 g)
+    (says (ltb-iff (length out) leastBuffer)
+    (says (cut-frame frame)
+    (says (wrong-frame frame)
+    no-more)))))
 
 -- #103, "Tell a cut frame from a wrong one": from a zone group, with room for the response, H6 is given exactly for a frame of under four
 -- bytes, and H10 exactly for one of four or more whose first byte is not 40h.
@@ -167,27 +165,24 @@ pub event-gives : (s : Shelf) (p source amount : ℕ)
 unfolding event
 event-gives s p source amount =
     rw (outcome-taken, event-number s p source amount)
-    (row-gives (eventTests s p source amount) (eventRefusals s p source amount) (omega arith, (omega arith, (omega arith, tt)))
-    (tell (unless-iff (not (exists s p)) (denied-iff (exists s p) Iff·rfl))
-    (tell
-    (unless-iff (eqb source 0x00 || not (supported source))
-    (either-iff (eqb source 0x00) (not (supported source)) (eqb-iff source 0x00) (denied-iff (supported source) Iff·rfl)))
-    (tell (unless-iff (amountTooLarge source amount) (amount-iff source amount))
-    nothing))))
+    (row-gives (eventTests s p source amount) (eventRefusals s p source amount) tt
+    (says (denied-iff (exists s p) Iff·rfl)
+    (says (either-iff (eqb source 0x00) (not (supported source)) (eqb-iff source 0x00) (denied-iff (supported source) Iff·rfl))
+    (says (amount-iff source amount)
+    no-more))))
 
 pub link-change-gives : (s : Shelf) (p : ℕ)
     → Gives (linkChangeRefusals s p) (takenNumber (linkChange s p .taken))
 unfolding linkChange
 link-change-gives s p =
     rw (outcome-taken, link-change-number (exists s p))
-    (row-gives (phyTests (exists s p)) (linkChangeRefusals s p) (omega arith, tt)
-    (tell (unless-iff (not (exists s p)) (denied-iff (exists s p) Iff·rfl)) nothing))
+    (row-gives (phyTests (exists s p)) (linkChangeRefusals s p) tt (says (denied-iff (exists s p) Iff·rfl) no-more))
 
 pub query-gives : (s : Shelf) (g : ℕ) → Gives (queryRefusals g) (queryNumber (reachQuery s g))
 unfolding reachQuery
 query-gives s g =
     simp (check-map queryNumber)
-    (row-gives ((4, ltb 31 g) ∷ []) (queryRefusals g) (omega arith, tt) (tell (unless-iff (ltb 31 g) (ltb-iff 31 g)) nothing))
+    (row-gives ((4, ltb 31 g) ∷ []) (queryRefusals g) tt (says (ltb-iff 31 g) no-more))
 
 -- ---- "The answer holds the number and nothing else; state and buffer stay. A refused start gives no device."
 

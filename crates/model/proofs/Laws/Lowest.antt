@@ -3,11 +3,12 @@ use Prim.Native.Nat.{ℕ, _≤_, _<_}
 use native.Mathlib.Omega.{arith}
 use mathlib.Core.Path.{_≡_, refl}
 use mathlib.Core.Logic.{_↔_, _⊎_, inl, inr, ⊎-elim, Iff·trans}
-use mathlib.Core.Bool.{Bool, not}
+use mathlib.Core.Bool.{Bool, true, not, _&&_}
 use mathlib.Core.List.{List, [], _∷_}
-use lib.Dec.{T, T-not, not-T}
-use Rattle.model.proofs.Laws.Drawn.{Draws, firstFailure, Tell, draws-first, AllPass, noCode00, passes-all}
+use lib.Dec.{T, ltb, T-not, not-T}
+use Rattle.model.proofs.Laws.Drawn.{Draws, firstFailure, Tell, nothing, tell, draws-first, AllPass, noCode00, passes-all}
 use Rattle.model.proofs.Laws.Places.{All}
+use Rattle.model.proofs.Laws.Tests.{and-iff, unless-iff, ltb-iff}
 
 -- Refusals, each with its number and its condition: number k applies.
 abbrev pub Applies : List (ℕ × Type 0) → ℕ → Type 0
@@ -26,28 +27,38 @@ pub record Gives (refusals : List (ℕ × Type 0)) (told : ℕ) : Type 0 where
 
 -- ---- Where the numbers rise, the lowest that applies is the first that does.
 
--- the numbers are above n, and rise
-abbrev pub Rising : ℕ → List (ℕ × Type 0) → Type 0
+-- the numbers are above n, and rise; and a test of it
+abbrev Rising : ℕ → List (ℕ × Type 0) → Type 0
 Rising n [] = Unit {0}
 Rising n (refusal ∷ rest) = (n < refusal .0) × Rising (refusal .0) rest
 
+abbrev pub rising : ℕ → List (ℕ × Type 0) → Bool
+rising n [] = true
+rising n (refusal ∷ rest) = ltb n (refusal .0) && rising (refusal .0) rest
+
+rising-says : (refusals : List (ℕ × Type 0)) (n : ℕ) → T (rising n refusals) → Rising n refusals
+rising-says [] n t = tt
+rising-says ((m, A) ∷ rest) n t =
+    let (above, later) = and-iff (ltb n m) (rising m rest) .0 t in
+    (ltb-iff n m .0 above, rising-says rest m later)
+
 applies-above : (refusals : List (ℕ × Type 0)) (n k : ℕ) → Rising n refusals → Applies refusals k → n < k
-applies-above [] n k rising there = absurd there
-applies-above ((m, A) ∷ rest) n k rising (inl here) = omega (arith, rising .0, here .0)
-applies-above ((m, A) ∷ rest) n k rising (inr there) = omega (arith, rising .0, applies-above rest m k (rising .1) there)
+applies-above [] n k rises there = absurd there
+applies-above ((m, A) ∷ rest) n k rises (inl here) = omega (arith, rises .0, here .0)
+applies-above ((m, A) ∷ rest) n k rises (inr there) = omega (arith, rises .0, applies-above rest m k (rises .1) there)
 
 drawn-lowest : (refusals : List (ℕ × Type 0)) (n k : ℕ) → Rising n refusals
     → ((1 ≤ k) × Draws refusals k)
     ↔ Lowest refusals k
-drawn-lowest [] n k rising = (λ h. absurd (omega arith), λ h. absurd (h .0))
-drawn-lowest ((m, A) ∷ rest) n k rising =
-    let later = drawn-lowest rest m k (rising .1) in (
+drawn-lowest [] n k rises = (λ h. absurd (omega arith), λ h. absurd (h .0))
+drawn-lowest ((m, A) ∷ rest) n k rises =
+    let later = drawn-lowest rest m k (rises .1) in (
       λ (some, drawn).
           ⊎-elim
           (λ (holds, is-m). (
             inl (is-m, holds),
             λ j below.
-                ⊎-elim (λ here. omega (arith, here .0)) (λ there. omega (arith, applies-above rest m j (rising .1) there)),
+                ⊎-elim (λ here. omega (arith, here .0)) (λ there. omega (arith, applies-above rest m j (rises .1) there)),
           ))
           (λ (fails, drawn-later).
           let (applies, least) = later .0 (some, drawn-later) in
@@ -55,9 +66,9 @@ drawn-lowest ((m, A) ∷ rest) n k rising =
           drawn,
       λ (applies, least).
           ⊎-elim
-          (λ (is-m, holds). (omega (arith, rising .0), inl (holds, is-m)))
+          (λ (is-m, holds). (omega (arith, rises .0), inl (holds, is-m)))
           (λ there.
-          let above : m < k = applies-above rest m k (rising .1) there in
+          let above : m < k = applies-above rest m k (rises .1) there in
           let (some, drawn-later) = later .1 (there, λ j below t. least j below (inr t)) in
           (some, inr (λ holds. least m above (inl (refl, holds)), drawn-later)))
           applies,
@@ -66,10 +77,10 @@ drawn-lowest ((m, A) ∷ rest) n k rising =
 none-drawn : (refusals : List (ℕ × Type 0)) (n : ℕ) → Rising n refusals
     → Draws refusals 0
     ↔ ((k : ℕ) → Applies refusals k → ⊥)
-none-drawn [] n rising = (λ e k there. there, λ none. refl)
-none-drawn ((m, A) ∷ rest) n rising =
-    let later = none-drawn rest m (rising .1) in (
-      ⊎-elim (λ (holds, is-0). absurd (omega (arith, rising .0)))
+none-drawn [] n rises = (λ e k there. there, λ none. refl)
+none-drawn ((m, A) ∷ rest) n rises =
+    let later = none-drawn rest m (rises .1) in (
+      ⊎-elim (λ (holds, is-0). absurd (omega (arith, rises .0)))
           (λ (fails, drawn-later) k. ⊎-elim (λ here. fails (here .1)) (λ there. later .0 drawn-later k there)),
       λ none. inr (λ holds. none m (inl (refl, holds)), later .1 (λ k there. none k (inr there))),
     )
@@ -84,15 +95,28 @@ denied (test ∷ tests) = (test .0, not (test .1)) ∷ denied tests
 abbrev pub firstGiven : List (ℕ × Bool) → ℕ
 firstGiven tests = firstFailure (denied tests)
 
-pub row-gives : (tests : List (ℕ × Bool)) (refusals : List (ℕ × Type 0)) → Rising 0 refusals → Tell (denied tests) refusals
+-- each test has its refusal's number, and says its condition
+pub data Say : List (ℕ × Bool) → List (ℕ × Type 0) → Type 1 where
+  no-more : Say [] []
+  says : {n : ℕ} {test : Bool} {A : Type 0} {tests : List (ℕ × Bool)} {refusals : List (ℕ × Type 0)}
+      → T test ↔ A → Say tests refusals → Say ((n, test) ∷ tests) ((n, A) ∷ refusals)
+
+denied-tell : (tests : List (ℕ × Bool)) (refusals : List (ℕ × Type 0)) → Say tests refusals → Tell (denied tests) refusals
+denied-tell tests refusals no-more = nothing
+denied-tell tests refusals (says {test = test} {tests = later} {refusals = rest} f say) =
+    tell (unless-iff test f) (denied-tell later rest say)
+
+pub row-gives : (tests : List (ℕ × Bool)) (refusals : List (ℕ × Type 0)) → T (rising 0 refusals) → Say tests refusals
     → Gives refusals (firstGiven tests)
-row-gives tests refusals rising tells =
+row-gives tests refusals t say =
+    let rises : Rising 0 refusals = rising-says refusals 0 t in
+    let tells : Tell (denied tests) refusals = denied-tell tests refusals say in
     record {
       each = λ k.
           let drawn = draws-first (denied tests) refusals tells k in
           Iff·trans (λ (some, told). (some, drawn .0 told), λ (some, draws). (some, drawn .1 draws))
-          (drawn-lowest refusals 0 k rising);
-      none = Iff·trans (draws-first (denied tests) refusals tells 0) (none-drawn refusals 0 rising);
+          (drawn-lowest refusals 0 k rises);
+      none = Iff·trans (draws-first (denied tests) refusals tells 0) (none-drawn refusals 0 rises);
     }
 
 -- and 0 exactly when none of them holds
