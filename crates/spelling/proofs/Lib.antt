@@ -1,6 +1,6 @@
 -- Facts of the bytes that a text begins with.
 pub mod Front
--- How the house refusals are spelled, on some of them.
-pub mod Texts
+-- The text of a house refusal.
+pub mod HouseText
 -- Each public promise settles its outcome.
 pub mod Settled

@@ -2,7 +2,7 @@
 use borrow.Author.Needs.{needs}
 use native.Mathlib.Omega.{arith}
 use lib.ListN.{length-set}
-use Rattle.spelling.proofs.Front.{one-digit, two-digits}
+use Rattle.spelling.proofs.HouseText.{one-digit, two-digits}
 use Rattle.spelling.proofs.house_text.Statement.{statement}
 use Rattle.spelling.proofs.house_text.Tie as tie
 
