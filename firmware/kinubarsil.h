@@ -132,7 +132,8 @@ uint32_t smp_start(struct smp_shelf *shelf, uint32_t number, const uint32_t grou
 /* One request. Tells the length of the response, which is 4 to 400, with the response in the first
  * bytes of `out`, the bytes past it unchanged, and the shelf as the request left it; or H4, H5, H6
  * or H10. H6 is a frame of under 4 bytes; H10 is one of 4 or more whose first byte is not 40h, such as
- * a response fed back (#103). A failed function result is a response too, of 4 bytes.
+ * a response fed back (until #103 that was H6 too). A failed function result is a response too, of 4
+ * bytes.
  *
  * source      the zone group that the request comes from
  * frame       the request's bytes as they came from the link layer, without CRC

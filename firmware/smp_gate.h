@@ -22,8 +22,8 @@ extern "C" {
 
 /* Judges one request frame, without CRC: the function, and H6, H10, 01h, 03h or nothing wrong. H6 is a
  * frame of under four bytes; H10 is one of four or more whose first byte is not 40h, such as a response
- * fed back, whatever else is wrong with it (#103). The known functions are 00h, 01h, 06h, 11h, 14h,
- * 21h, 91h and 93h; every other one draws 01h.
+ * fed back, whatever else is wrong with it (until #103 that was H6 too). The known functions are 00h,
+ * 01h, 06h, 11h, 14h, 21h, 91h and 93h; every other one draws 01h.
  *
  * frame   the bytes as they came from the link layer. What C owes: it is not NULL, not even where
  *         size is 0; `size` bytes from it on are readable and have been set; and nobody changes
