@@ -116,7 +116,7 @@ unsafe extern "C" fn twin_serve(
 }
 
 unsafe extern "C" fn twin_event(shelf: Memory, phy: u32, source: u32, amount: u32) -> u32 {
-    told::done((*shelf.cast::<Shelf>()).event(phy, source, amount))
+    told::counted((*shelf.cast::<Shelf>()).event(phy, source, amount))
 }
 
 unsafe extern "C" fn twin_link_change(shelf: Memory, phy: u32) -> u32 {

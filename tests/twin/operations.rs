@@ -77,6 +77,11 @@ fn event(random: &mut Random, shelf: &Shelf) -> Operation {
         _ => random.number(),
     };
     let amount = match random.below(8) {
+        // To FFFFFFFFh, just short of it or just past it, for a source with an error count.
+        _ if (0x01..=0x04).contains(&source) && random.chance(50) => {
+            let error = shelf.phys[phy.min(23) as usize].errors[source as usize - 1];
+            (u32::MAX - error).wrapping_add(random.below(3)).wrapping_sub(1)
+        }
         // To all thresholds of the monitors on the source.
         0 | 1 => to_all_thresholds(monitors, source),
         2 => monitor.threshold.wrapping_add(random.below(3)).wrapping_sub(1),

@@ -106,7 +106,7 @@ impl Pair {
             }
             &Operation::Event { phy, source, amount } => {
                 let host = host::event(shelf, phy, source, amount);
-                (host, told::done(self.twin.event(phy, source, amount)))
+                (host, told::counted(self.twin.event(phy, source, amount)))
             }
             &Operation::LinkChange { phy } => {
                 (host::link_change(shelf, phy), told::done(self.twin.link_change(phy)))

@@ -137,7 +137,7 @@ fn case_11_wrapping_value_and_stopping_error_count() {
     serve(&mut shelf, 1, &configure(0, 0, &[(0x01, 0)])).unwrap();
     shelf.phys[0].monitors[0].value = 0xFFFF_FFFE;
     shelf.phys[0].errors[0] = 0xFFFF_FFFE;
-    assert_eq!(shelf.event(0, 0x01, 3), Ok(()));
+    assert_eq!(shelf.event(0, 0x01, 3), Ok(true));
     assert_eq!(shelf.phys[0].monitors[0].value, 0x0000_0001);
     assert_eq!(shelf.phys[0].errors, [0xFFFF_FFFF, 0, 0, 0]);
 }
@@ -147,7 +147,7 @@ fn case_12_peak_reaches_its_threshold_once() {
     let mut shelf = shelf_w();
     assert_eq!(serve(&mut shelf, 1, &configure(0, 0, &[(0x2D, 10)])).unwrap(), OK_93);
     for (amount, expander1) in [(9, 0), (10, 1), (12, 1)] {
-        assert_eq!(shelf.event(0, 0x2D, amount), Ok(()));
+        assert_eq!(shelf.event(0, 0x2D, amount), Ok(false));
         assert_eq!((shelf.phys[0].expander1, shelf.phys[0].monitors[0].value), (expander1, amount));
     }
 }
@@ -164,8 +164,8 @@ fn case_13_buffer_length() {
 fn wrong_1_one_addition_for_monitors_and_error_counts() {
     let mut shelf = shelf_w();
     serve(&mut shelf, 1, &configure(0, 0, &[(0x04, 0), (0x04, 0), (0x03, 0)])).unwrap();
-    for _ in 0..2 {
-        assert_eq!(shelf.event(0, 0x04, 0xFFFF_FFFF), Ok(()));
+    for cut in [false, true] {
+        assert_eq!(shelf.event(0, 0x04, 0xFFFF_FFFF), Ok(cut));
     }
     let values = shelf.phys[0].monitors.map(|monitor| monitor.value);
     assert_eq!(values, [0xFFFF_FFFE, 0xFFFF_FFFE, 0, 0]);
@@ -549,4 +549,52 @@ fn a_store_that_no_start_made() {
 fn a_start_empties_the_store() {
     let (groups, table, identifier) = parts();
     assert_eq!(Shelf::start(4, &groups, &table, &identifier).unwrap().store, Store::EMPTY);
+}
+
+/// #104, with the error count at `count` before.
+fn cut(count: u32, source: u32, amount: u32) -> Result<bool, u32> {
+    let mut shelf = shelf_w();
+    shelf.phys[0].errors = [count; 4];
+    let answer = shelf.event(0, source, amount);
+    if let 0x01..=0x04 = source {
+        let sum = u64::from(count) + u64::from(amount);
+        assert_eq!(u64::from(shelf.phys[0].errors[source as usize - 1]), sum.min(0xFFFF_FFFF));
+    }
+    answer
+}
+
+#[test]
+fn a_report_says_whether_its_own_addition_was_cut() {
+    const FULL: u32 = 0xFFFF_FFFF;
+    for source in 0x01..=0x04 {
+        // "FFFFFFFFh plus 0 is not cut, and a sum of exactly FFFFFFFFh is not."
+        for (count, amount) in [(0, 0), (0, FULL), (FULL, 0), (FULL - 1, 1), (1, FULL - 1)] {
+            assert_eq!(cut(count, source, amount), Ok(false));
+        }
+        for (count, amount) in [(FULL, 1), (1, FULL), (FULL - 1, 2), (FULL, FULL)] {
+            assert_eq!(cut(count, source, amount), Ok(true));
+        }
+    }
+    // "the answer is 'no' for every source but 01h to 04h"
+    for source in [0x05, 0x06, 0x20, 0x2A, 0x2D, 0x2E, 0x40, 0x45] {
+        assert_eq!(cut(FULL, source, FULL), Ok(false));
+    }
+    // "A refused report has no such answer."
+    assert_eq!(cut(FULL, 0x07, FULL), Err(H8));
+    assert_eq!(cut(FULL, 0x101, FULL), Err(H8));
+    assert_eq!(cut(FULL, 0x2B, FULL), Err(H9));
+}
+
+#[test]
+fn a_monitor_that_wraps_is_not_cut() {
+    let mut shelf = shelf_w();
+    serve(&mut shelf, 1, &configure(0, 0, &[(0x05, 0), (0x02, 0)])).unwrap();
+    assert_eq!(shelf.event(0, 0x05, 0xFFFF_FFFF), Ok(false));
+    assert_eq!(shelf.event(0, 0x05, 0xFFFF_FFFF), Ok(false));
+    assert_eq!(shelf.event(0, 0x02, 0xFFFF_FFFF), Ok(false));
+    // 91h with 05h: the error counts go to 0, the monitor stays, and then wraps alone.
+    serve(&mut shelf, 1, &control(0, 0x05)).unwrap();
+    assert_eq!(shelf.event(0, 0x02, 1), Ok(false));
+    assert_eq!((shelf.phys[0].errors[1], shelf.phys[0].monitors[1].value), (1, 0));
+    assert_eq!(shelf.phys[0].monitors[0].value, 0xFFFF_FFFE);
 }

@@ -115,6 +115,7 @@ pub fn answer(operation: &Operation, told: u32) -> String {
     match operation {
         Operation::Serve { .. } => format!("response of {told} bytes"),
         Operation::Reach { .. } => format!("set {:06X}h, {}", told & 0xFF_FFFF, told >> 24),
+        Operation::Event { .. } if told == 1 => "counted, and cut (1)".to_string(),
         _ => format!("done ({told})"),
     }
 }

@@ -59,7 +59,7 @@ pub unsafe extern "C" fn smp_event(
     source: u32,
     amount: u32,
 ) -> u32 {
-    change(&mut *shelf, |twin| told::done(twin.event(phy, source, amount)))
+    change(&mut *shelf, |twin| told::counted(twin.event(phy, source, amount)))
 }
 
 /// # Safety

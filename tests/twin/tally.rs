@@ -3,7 +3,7 @@
 
 use crate::operations::Operation;
 use crate::twin::judge::{judge, Wrong};
-use crate::twin::{is_counting, is_peak, Phy, Shelf, Store};
+use crate::twin::{is_counting, is_peak, Monitor, Phy, Shelf, Store};
 
 pub const ENOUGH: u64 = 200_000;
 
@@ -67,8 +67,14 @@ marks! {
     Expander2Round "Expander 2h FFFFh to 0001h",
     Expander3Round "Expander 3h FFFFh to 0001h",
     SesRound "SES FFFFh to 0001h",
-    Saturated "error counts stopped at FFFFFFFFh",
+    Cut "reports told cut",
+    CutAgain "reports told cut, the count at FFFFFFFFh before",
+    JustFull "error counts that came to FFFFFFFFh exactly, not cut",
+    FullPlus0 "0 added to an error count of FFFFFFFFh, not cut",
+    CutNotWrapped "reports told cut, a monitor on the source not wrapped",
     Wrapped "monitors wrapped",
+    WrappedNotCut "monitors on 01h to 04h wrapped, the error count not cut",
+    WrappedNoCount "monitors on a source without an error count wrapped",
     NumberAbove24 "operations on a phy number above 24",
     GroupAbove31 "operations about a phy in a group above 31",
     Length03ToOthers "21h of a wrong length from another group than 1",
@@ -166,7 +172,7 @@ impl Tally {
             }
             &Operation::Event { source, amount, phy } => {
                 self.mark(Mark::Event, true);
-                self.event(&before.phys[phy as usize], source as u8, amount);
+                self.event(&before.phys[phy as usize], source as u8, amount, told == 1);
             }
             Operation::LinkChange { .. } => self.mark(Mark::LinkChange, true),
             Operation::Notice { ses } => {
@@ -280,14 +286,24 @@ impl Tally {
         self.mark(Mark::ListRound, out[6..8] > out[8..10]);
     }
 
-    fn event(&mut self, phy: &Phy, source: u8, amount: u32) {
+    /// An accepted event report, and whether it was told that its addition was cut.
+    fn event(&mut self, phy: &Phy, source: u8, amount: u32, cut: bool) {
+        let watching = || phy.monitors.iter().filter(|monitor| monitor.source == source);
+        let wraps = |monitor: &Monitor| monitor.value.checked_add(amount).is_none();
+        let wrapped = is_counting(source) && watching().any(wraps);
+        self.mark(Mark::Cut, cut);
+        self.mark(Mark::Wrapped, wrapped);
         if let 0x01..=0x04 = source {
             let error = phy.errors[usize::from(source - 1)];
-            self.mark(Mark::Saturated, error.checked_add(amount).is_none());
+            let full = error == u32::MAX;
+            self.mark(Mark::CutAgain, cut && full);
+            self.mark(Mark::JustFull, !cut && amount > 0 && error.wrapping_add(amount) == u32::MAX);
+            self.mark(Mark::FullPlus0, !cut && full && amount == 0);
+            self.mark(Mark::CutNotWrapped, cut && !watching().all(wraps));
+            self.mark(Mark::WrappedNotCut, !cut && wrapped);
+        } else {
+            self.mark(Mark::WrappedNoCount, !cut && wrapped);
         }
-        let mut watching = phy.monitors.iter().filter(|monitor| monitor.source == source);
-        let wraps = watching.any(|monitor| monitor.value.checked_add(amount).is_none());
-        self.mark(Mark::Wrapped, is_counting(source) && wraps);
     }
 
     /// What the operation did to the counts.

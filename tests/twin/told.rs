@@ -10,6 +10,11 @@ pub fn done(answer: Result<(), u32>) -> u32 {
     answer.map_or_else(refused, |()| 0)
 }
 
+/// Tells 0, or 1 if the report's own addition was cut (#104), or the refusal.
+pub fn counted(answer: Result<bool, u32>) -> u32 {
+    answer.map_or_else(refused, u32::from)
+}
+
 /// Tells the length of the response, or the refusal.
 pub fn length(answer: Result<usize, u32>) -> u32 {
     answer.map_or_else(refused, |length| length as u32)

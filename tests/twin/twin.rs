@@ -1,5 +1,5 @@
-//! A second reading of document 01, and of document 02's #101 and #103, written in plain Rust without
-//! looking at the shelf server Kinubarsil itself: a twin that `drive.rs` runs beside it, and the
+//! A second reading of document 01, and of document 02's #101, #103 and #104, written in plain Rust
+//! without looking at the shelf server Kinubarsil itself: a twin that `drive.rs` runs beside it, and the
 //! baseline of `tests/bench`.
 //!
 //! The comments quote the sentences of the documents where they are carried out. A
@@ -132,6 +132,21 @@ fn originate(count: &mut u16) {
     *count = count.checked_add(1).unwrap_or(if cfg!(fault = "count_to_zero") { 0 } else { 1 });
 }
 
+/// An error count stops at FFFFFFFFh. #104: "The saturating addition must answer whether the exact
+/// sum was above FFFFFFFFh, as well as the new number." A sum of exactly FFFFFFFFh is not above it.
+fn add_stopping(count: &mut u32, amount: u32) -> bool {
+    const MOST: u64 = 0xFFFF_FFFF;
+    let sum = u64::from(*count) + u64::from(amount);
+    let full = *count == u32::MAX;
+    *count = if cfg!(fault = "errors_wrap") { sum as u32 } else { sum.min(MOST) as u32 };
+    if cfg!(fault = "cut_told_a_report_later") {
+        return full && amount > 0;
+    }
+    let at_most = cfg!(fault = "cut_at_exactly_ffffffffh") && sum == MOST && amount > 0;
+    let adds_none = cfg!(fault = "cut_where_0_is_added_to_ffffffffh") && full;
+    !cfg!(fault = "cut_never_told") && (sum > MOST || at_most || adds_none)
+}
+
 /// "Response byte 0 is 41h, byte 1 the function, byte 2 the result, byte 3 the number of dwords
 /// that follow. Bytes not named are 0."
 fn accepted<const N: usize>(out: &mut Buffer, function: u8) -> &mut [u8; N] {
@@ -235,13 +250,16 @@ impl Phy {
 
     /// "Each of the phy's monitors on that source changes: counting values wrap at 32 bits, peaks
     /// keep the larger. Sources 01h to 04h also add to the four error counts in the order above,
-    /// which stop at FFFFFFFFh." The phy is number `p`.
-    fn count(&mut self, p: u8, source: u8, amount: u32, store: &mut Store) {
-        if let 0x01..=0x04 = source {
-            let error = &mut self.errors[usize::from(source - 1)];
-            let wrap = cfg!(fault = "errors_wrap");
-            *error = if wrap { error.wrapping_add(amount) } else { error.saturating_add(amount) };
-        }
+    /// which stop at FFFFFFFFh." The phy is number `p`. Says whether the report's "own addition was
+    /// cut, and with 'no' for sources that have no error count" (#104).
+    fn count(&mut self, p: u8, source: u8, amount: u32, store: &mut Store) -> bool {
+        let mut cut = match source {
+            0x01..=0x04 => add_stopping(&mut self.errors[usize::from(source - 1)], amount),
+            0x05 if cfg!(fault = "cut_for_source_05h") => {
+                add_stopping(&mut { self.errors[3] }, amount)
+            }
+            _ => false,
+        };
         self.turn_if_falling();
         for monitor in self.monitors.iter_mut().filter(|monitor| monitor.source == source) {
             let before = monitor.value;
@@ -249,6 +267,7 @@ impl Phy {
                 let stop = cfg!(fault = "monitors_saturate");
                 let sum = before.wrapping_add(amount);
                 monitor.value = if stop { before.saturating_add(amount) } else { sum };
+                cut |= cfg!(fault = "cut_where_a_monitor_wraps") && sum < before;
                 continue;
             }
             monitor.value = before.max(amount);
@@ -267,6 +286,7 @@ impl Phy {
             }
         }
         self.turn_if_falling();
+        cut
     }
 
     /// "each of the phy's monitors on a peak source goes to 0, and if there is one such monitor or
@@ -365,8 +385,9 @@ impl Shelf {
         Ok(length)
     }
 
-    /// "An event report names phy, source and a 32-bit amount."
-    pub fn event(&mut self, phy: u32, source: u32, amount: u32) -> Result<(), u32> {
+    /// "An event report names phy, source and a 32-bit amount." Its answer "says whether its own
+    /// addition was cut" (#104); a refused one has no such answer.
+    pub fn event(&mut self, phy: u32, source: u32, amount: u32) -> Result<bool, u32> {
         let number = self.number();
         let p = phy as u8;
         let phy = self.phys[..number].get_mut(phy as usize).ok_or(H7)?;
@@ -380,8 +401,7 @@ impl Shelf {
         if amount > most {
             return Err(H9);
         }
-        phy.count(p, source, amount, &mut self.store);
-        Ok(())
+        Ok(phy.count(p, source, amount, &mut self.store))
     }
 
     /// "a link change on a phy (Change)"
