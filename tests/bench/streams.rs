@@ -17,9 +17,9 @@ pub enum Call {
 
 /// Every stream.
 #[rustfmt::skip]
-pub const NAMES: [&str; 34] = [
+pub const NAMES: [&str; 36] = [
     "start", "00", "01", "06", "11", "14", "21", "21newest", "91", "93", "93set", "93none", "event",
-    "counting", "crossing", "below", "link_change", "notice", "reach", "mixed",
+    "counting", "errors", "cut", "crossing", "below", "link_change", "notice", "reach", "mixed",
     "h4", "h5", "h6", "h10", "result01", "result03", "result21", "result04", "result10", "result16",
     "result20", "result13", "result02", "result17",
 ];
@@ -131,6 +131,9 @@ fn call(name: &str, i: u32, phys: u32) -> Option<Call> {
         "event" => Call::Event { phy, source: [0x01, 0x2D, 0x20, 0x45][turn % 4], amount: i },
         // Counting sources alone.
         "counting" => Call::Event { phy, source: [0x01, 0x20, 0x45][turn % 3], amount: i },
+        // Sources with an error count alone: none is cut, or, from the second turn of a source on, each.
+        "errors" => Call::Event { phy, source: 1 + turn as u32 % 4, amount: 1 },
+        "cut" => Call::Event { phy, source: 1 + turn as u32 % 4, amount: u32::MAX },
         "crossing" => pair(i, phys, 20),
         "below" => pair(i, phys, 9),
         "start" => Call::Start { phys },
@@ -164,7 +167,8 @@ pub fn stores(name: &str) -> Option<u16> {
     match name {
         "crossing" => Some(120),
         "93" => Some(480),
-        "93set" | "93none" | "counting" | "below" | "21" | "21newest" | "result21" => Some(0),
+        "93set" | "93none" | "counting" | "errors" | "cut" | "below" | "21" | "21newest"
+        | "result21" => Some(0),
         _ => None,
     }
 }

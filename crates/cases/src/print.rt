@@ -9,6 +9,15 @@ pub(crate) fn print_unreadable() {
     io::write_all(STDOUT_FILENO, b" ?\n");
 }
 
+// Writes that a report is done, and whether its own addition to an error count was cut (#104).
+pub(crate) fn print_counted(cut: bool) {
+    if cut {
+        io::write_all(STDOUT_FILENO, b" done, cut\n");
+        return;
+    }
+    io::write_all(STDOUT_FILENO, b" done\n");
+}
+
 // Writes a house refusal.
 pub(crate) fn print_house(house: House) {
     let mut text = [0u8; 5];

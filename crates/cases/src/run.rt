@@ -1,10 +1,11 @@
 // Running a line of the script.
+use crate::print::print_counted;
 use crate::print::print_house;
 use crate::print::print_unreadable;
 use crate::request::run_request;
 use libc::STDOUT_FILENO;
+use model::EventAnswer;
 use model::Reach;
-use model::Taken;
 use script::line::Line;
 use script::line::line_kind;
 use script::report::ReportLine;
@@ -22,10 +23,8 @@ use words::WORDS;
 fn run_report(words: &mut [u32; WORDS], line: &[u8], from: Reading) {
     match read_report(line, from) {
         ReportLine::Makes { times, report } => match make_times(words, report, times) {
-            Taken::Done => {
-                io::write_all(STDOUT_FILENO, b" done\n");
-            }
-            Taken::NotDone(house) => print_house(house),
+            EventAnswer::Counted { cut } => print_counted(cut),
+            EventAnswer::NotCounted(house) => print_house(house),
         },
         ReportLine::NoReport => print_unreadable(),
     }

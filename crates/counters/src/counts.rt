@@ -1,4 +1,5 @@
-// How a count moves: originating, the addition that wraps, and the addition that stops.
+// How a count moves: originating, the addition that wraps, and the addition that stops and says so.
+use model::Added;
 ghost use mathlib.Core.Path.{_≡_};
 ghost use Rattle.model.specs.Counting.{originate, addWrapping, addSaturating};
 
@@ -16,13 +17,20 @@ pub fn add_wrapping(value: u32, amount: u32) -> u32
     std::num::wrapping_add_u32(value, amount)
 }
 
-// "the four error counts .., which stop at FFFFFFFFh"
-pub fn add_saturating(count: u32, amount: u32) -> u32
+// "the four error counts .., which stop at FFFFFFFFh". #104: "The saturating addition must answer whether the exact sum was
+// above FFFFFFFFh, as well as the new number."
+pub fn add_saturating(count: u32, amount: u32) -> Added
     ensures { λ r. ⌜ r ≡ addSaturating count amount ⌝ }
 {
     if amount <= 0xFFFF_FFFF - count {
-        count + amount
+        Added {
+            number: count + amount,
+            cut: false,
+        }
     } else {
-        0xFFFF_FFFF
+        Added {
+            number: 0xFFFF_FFFF,
+            cut: true,
+        }
     }
 }

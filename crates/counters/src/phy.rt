@@ -11,7 +11,7 @@ ghost use Prim.Native.Nat.{max};
 ghost use mathlib.Core.Bool.{cond};
 ghost use mathlib.Core.List.{_∷_, [], map};
 ghost use Rattle.model.specs.Counting.{originateIf, addWrapping, counted, crosses};
-ghost use Rattle.model.specs.Counting.{crossings, addError, eventOn, changeOn};
+ghost use Rattle.model.specs.Counting.{crossings, addError, errorCut, eventOn, changeOn};
 ghost use Rattle.model.specs.Sources.{peak};
 ghost use Rattle.counters.specs.Marked.{originateMarked};
 
@@ -101,22 +101,40 @@ fn counted_monitors(source: u32, amount: u32, before: [Monitor; 4]) -> [Monitor;
     ]
 }
 
-// "Sources 01h to 04h also add to the four error counts in the order above"
-fn add_error(source: u32, amount: u32, errors: [u32; 4]) -> [u32; 4]
-    ensures { λ r. ⌜ r ≡ addError source amount errors ⌝ }
+// The four error counts after a report, and whether its own addition to one of them was cut (#104).
+struct ErrorsAdded {
+    errors: [u32; 4],
+    cut: bool,
+}
+
+// "Sources 01h to 04h also add to the four error counts in the order above". #104: ".. and with "no" for sources that have
+// no error count".
+fn add_error(source: u32, amount: u32, errors: [u32; 4]) -> ErrorsAdded
+    ensures added { λ r. ⌜ r .errors ≡ addError source amount errors ⌝ }
+    ensures cut { λ r. ⌜ r .cut ≡ errorCut source amount errors ⌝ }
 {
     let mut after = errors;
+    let mut cut = false;
     if (0x01 <= source) & (source <= 0x04) {
         let i = (source - 1) as usize;
-        after[i] = add_saturating(errors[i], amount);
+        let added = add_saturating(errors[i], amount);
+        after[i] = added.number;
+        cut = added.cut;
     }
-    after
+    ErrorsAdded { errors: after, cut }
+}
+
+// What an event report does to its phy, and whether its own addition to an error count was cut (#104).
+pub struct EventDone {
+    pub effect: Effect,
+    pub cut: bool,
 }
 
 // An event report, on the phy that it names. #101: "Each origination of Expander 1h stores the monitor that crossed, in
 // monitor order if several do, with its new value".
-pub fn event_on(source: u32, amount: u32, before: Phy) -> Effect
-    ensures { λ r. ⌜ r ≡ eventOn source amount before ⌝ }
+pub fn event_on(source: u32, amount: u32, before: Phy) -> EventDone
+    ensures done { λ r. ⌜ r .effect ≡ eventOn source amount before ⌝ }
+    ensures cut { λ r. ⌜ r .cut ≡ errorCut source amount (before .errors) ⌝ }
 {
     let errors = before.errors;
     let monitors = before.monitors;
@@ -124,14 +142,19 @@ pub fn event_on(source: u32, amount: u32, before: Phy) -> Effect
     let counted = counted_monitors(source, amount, monitors);
     let marks = crossings(source, amount, monitors);
     let mut after = before;
-    after.errors = added;
+    let errors_after = added.errors;
+    after.errors = errors_after;
     after.monitors = counted;
     after.expander1 = originate_marked(marks[0], marks[1], marks[2], marks[3], before.expander1);
-    Effect {
+    let effect = Effect {
         phy: after,
         change: false,
         monitors: counted,
         stored: marks,
+    };
+    EventDone {
+        effect,
+        cut: added.cut,
     }
 }
 

@@ -1,9 +1,10 @@
-// What an event report is told: "An event report names phy, source and a 32-bit amount."
+// What an event report is judged to be, and its answer: "An event report names phy, source and a 32-bit amount."
 use crate::sources::supported;
+use model::EventAnswer;
 use model::House;
 use model::Taken;
 ghost use mathlib.Core.Path.{_≡_};
-ghost use Rattle.model.specs.Reports.{amountTooLarge, eventTaken};
+ghost use Rattle.model.specs.Reports.{amountTooLarge, eventTaken, eventAnswer};
 
 // H9: "amount above FFh for 2Bh, or above FFFFh for 2Ch"
 fn amount_too_large(source: u32, amount: u32) -> bool
@@ -26,4 +27,15 @@ pub fn event_taken(there: bool, source: u32, amount: u32) -> Taken
         return Taken::NotDone(House::Amount);
     }
     Taken::Done
+}
+
+// The answer to a report that was judged so: counted, and whether its own addition was cut (#104); a refused one has no such
+// answer.
+pub fn event_answer(taken: Taken, cut: bool) -> EventAnswer
+    ensures { λ r. ⌜ r ≡ eventAnswer taken cut ⌝ }
+{
+    match taken {
+        Taken::Done => EventAnswer::Counted { cut },
+        Taken::NotDone(house) => EventAnswer::NotCounted(house),
+    }
 }

@@ -1,38 +1,38 @@
--- What C reads off the number that it is told (firmware/kinubarsil.h): whether it is a house refusal and which, the length of a response,
--- the set of phys that are reached and their number. Assumes nothing.
+-- What C reads off the number that it is told (firmware/kinubarsil.h): whether it is a house refusal and which, whether an event report's
+-- own addition was cut, the length of a response, the set of phys that are reached and their number. Assumes nothing.
 use Prim.Native.Nat.{ℕ, _/_, _%_, _≤_}
 use native.Mathlib.Omega.{arith}
-use mathlib.Core.Path.{_≡_, refl}
-use mathlib.Core.Bool.{not}
+use mathlib.Core.Path.{_≡_, refl, ap}
+use mathlib.Core.Logic.{_↔_}
+use mathlib.Core.Bool.{true, false, not}
 use mathlib.Core.List.{List}
 use lib.Count.{ones-le}
 use lib.Dec.{ltb}
 use lib.ListN.{length}
+use Rattle.model.specs.declared.EventAnswer.{EventAnswer}
+use Rattle.model.specs.declared.EventAnswer.the-variants.{Counted, NotCounted}
 use Rattle.model.specs.declared.House.{House}
-use Rattle.model.specs.declared.House.the-variants.{PhyNumber, PhyGroup, IllegalTable, SourceGroup, ShortBuffer}
-use Rattle.model.specs.declared.House.the-variants.{CutFrame, NoSuchPhy, EventSource, Amount, WrongFrame}
+use Rattle.model.specs.declared.House.the-variants.{SourceGroup}
 use Rattle.model.specs.declared.Reach.the-variants.{Reaches, NoReach}
 use Rattle.model.specs.declared.Shelf.{Shelf}
 use Rattle.model.specs.House.{houseNumber}
 use Rattle.model.specs.Reach.{reachSet, reachNumber, reachQuery}
 use Rattle.model.specs.Server.{Reply, Refuses, Sends, handle, answer, served}
 use Rattle.model.proofs.Demands.Frames.{response-framed}
+use Rattle.model.proofs.Laws.Checks.{house-range}
 use Rattle.model.proofs.Laws.Tests.{check-both}
 use Rattle.model.proofs.Plain.Reach.{reach-answered, reach-ones, reach-set-fits}
-use Rattle.host.specs.Told.{refusedTold, answerTold, reachTold, AnswerFits, ReachFits}
+use Rattle.host.specs.Told.{refusedTold, eventTold, answerTold, reachTold, AnswerFits, ReachFits}
 
 -- a house refusal has bit 31, and its number in the four low bits
 pub refused-read : (house : House) → (refusedTold house / 0x80000000 ≡ 1) × (refusedTold house % 0x10 ≡ houseNumber house)
-refused-read PhyNumber = (omega arith, omega arith)
-refused-read PhyGroup = (omega arith, omega arith)
-refused-read IllegalTable = (omega arith, omega arith)
-refused-read SourceGroup = (omega arith, omega arith)
-refused-read ShortBuffer = (omega arith, omega arith)
-refused-read CutFrame = (omega arith, omega arith)
-refused-read NoSuchPhy = (omega arith, omega arith)
-refused-read EventSource = (omega arith, omega arith)
-refused-read Amount = (omega arith, omega arith)
-refused-read WrongFrame = (omega arith, omega arith)
+refused-read house = let (_, few) = house-range house in (omega arith, omega arith)
+
+-- an event report is told by 1 exactly where its own addition was cut (#104)
+pub event-read : (answer : EventAnswer) → (eventTold answer ≡ 1) ↔ (answer ≡ Counted true)
+event-read (Counted true) = (λ e. refl, λ e. refl)
+event-read (Counted false) = (λ e. absurd (omega arith), λ e. ap eventTold e)
+event-read (NotCounted house) = (λ e. absurd (omega (arith, house-range house)), λ e. ap eventTold e)
 
 -- a response is told by its length, 4 to 400, and so without bit 31
 pub response-read : (s : Shelf) (g : ℕ) (frame : List ℕ) (room : ℕ) (bytes : List ℕ) → handle s g frame room .reply ≡ Sends bytes

@@ -1,8 +1,11 @@
 -- What C is told: one number of 32 bits. Bit 31 says that it is a house refusal, whose number, 1 to 10, is in the low bits; where it is
 -- not set, the number is what was asked for.
 use Prim.Native.Nat.{ℕ, _+_, _*_, _≤_, _<_}
+use mathlib.Core.Bool.{cond}
 use Rattle.model.specs.declared.Answer.{Answer}
 use Rattle.model.specs.declared.Answer.the-variants.{Response, NoResponse}
+use Rattle.model.specs.declared.EventAnswer.{EventAnswer}
+use Rattle.model.specs.declared.EventAnswer.the-variants.{Counted, NotCounted}
 use Rattle.model.specs.declared.House.{House}
 use Rattle.model.specs.declared.Reach.{Reach}
 use Rattle.model.specs.declared.Reach.the-variants.{Reaches, NoReach}
@@ -13,10 +16,15 @@ use Rattle.model.specs.House.{houseNumber}
 abbrev pub refusedTold : House → ℕ
 refusedTold house = 0x80000000 + houseNumber house
 
--- a start or a report: 0 where it is done
+-- a start or a link change: 0 where it is done
 abbrev pub takenTold : Taken → ℕ
 takenTold Done = 0
 takenTold (NotDone house) = refusedTold house
+
+-- an event report (#104): 0 where it is counted, and 1 where its own addition to an error count was cut
+abbrev pub eventTold : EventAnswer → ℕ
+eventTold (Counted cut) = cond cut 1 0
+eventTold (NotCounted house) = refusedTold house
 
 -- a request: the length of the response
 abbrev pub answerTold : Answer → ℕ

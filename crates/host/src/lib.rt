@@ -6,6 +6,7 @@
 mod told;
 
 use crate::told::answer_told;
+use crate::told::event_told;
 use crate::told::reach_told;
 use crate::told::taken_told;
 use server::event;
@@ -21,7 +22,7 @@ ghost use Rattle.model.specs.Reports.{event, linkChange, reducedFunctionality, 
 ghost use Rattle.model.specs.Reach.{reachQuery};
 ghost use Rattle.model.specs.Shelf.{start};
 ghost use Rattle.model.specs.Server.{served, lentAfter};
-ghost use Rattle.host.specs.Told.{takenTold, answerTold, reachTold};
+ghost use Rattle.host.specs.Told.{takenTold, eventTold, answerTold, reachTold};
 ghost use Rattle.words.specs.Words.{shelfOf, laidOver, startedWords};
 
 // A start: the fresh shelf is laid into the words; or it is refused, H1, H2 or H3, and they are as they were.
@@ -64,15 +65,16 @@ pub extern "C" fn smp_serve(
     answer_told(serve(shelf, source, frame, out))
 }
 
-// An event report: the phy that it names counts it, or it is refused, and the shelf is as it was.
+// An event report: the phy that it names counts it, and 1 tells that its own addition to an error count was cut (#104). Or it
+// is refused, and the shelf is as it was.
 #[no_mangle]
 pub extern "C" fn smp_event(shelf: &mut [u32; WORDS], phy: u32, source: u32, amount: u32) -> u32
-    ensures told { λ r. ⌜ r ≡ takenTold (event (shelfOf (now (shelf .entry))) phy source amount .taken) ⌝ }
+    ensures told { λ r. ⌜ r ≡ eventTold (event (shelfOf (now (shelf .entry))) phy source amount .answer) ⌝ }
     ensures kept { λ _.
         ⌜ now (shelf .exit)
         ≡ laidOver (now (shelf .entry)) (event (shelfOf (now (shelf .entry))) phy source amount .shelf) ⌝ }
 {
-    taken_told(event(shelf, phy, source, amount))
+    event_told(event(shelf, phy, source, amount))
 }
 
 // A link change on a phy, or H7.

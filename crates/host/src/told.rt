@@ -1,11 +1,12 @@
 // What C is told, as one number of 32 bits.
 use gate::numbers::house_number;
 use model::Answer;
+use model::EventAnswer;
 use model::House;
 use model::Reach;
 use model::Taken;
 ghost use mathlib.Core.Path.{_≡_};
-ghost use Rattle.host.specs.Told.{refusedTold, takenTold, answerTold, reachTold, AnswerFits, ReachFits};
+ghost use Rattle.host.specs.Told.{refusedTold, takenTold, eventTold, answerTold, reachTold, AnswerFits, ReachFits};
 
 // A house refusal: bit 31, and its number.
 fn refused_told(house: House) -> u32
@@ -14,13 +15,23 @@ fn refused_told(house: House) -> u32
     0x8000_0000 + (house_number(house) as u32)
 }
 
-// A start or a report: 0 where it is done.
+// A start or a link change: 0 where it is done.
 pub(crate) fn taken_told(taken: Taken) -> u32
     ensures { λ r. ⌜ r ≡ takenTold taken ⌝ }
 {
     match taken {
         Taken::Done => 0,
         Taken::NotDone(house) => refused_told(house),
+    }
+}
+
+// An event report: 0 where it is counted, and 1 where its own addition to an error count was cut (#104).
+pub(crate) fn event_told(answer: EventAnswer) -> u32
+    ensures { λ r. ⌜ r ≡ eventTold answer ⌝ }
+{
+    match answer {
+        EventAnswer::Counted { cut } => cut as u32,
+        EventAnswer::NotCounted(house) => refused_told(house),
     }
 }
 

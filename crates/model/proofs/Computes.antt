@@ -2,7 +2,7 @@
 use Prim.Native.Nat.{ℕ}
 use Rattle.model.specs.CrossedOut.{aboutPhy, linkResetOrDisable, crossedOut, remains}
 use Rattle.model.specs.Counting.{originate, counted, crosses}
-use Rattle.model.specs.Counting.{addError, eventOn, changeOn}
+use Rattle.model.specs.Counting.{addError, errorCut, eventOn, changeOn}
 use Rattle.model.specs.Reach.{reachSet, reachNumber, reachQuery}
 use Rattle.model.specs.Reply.{reportGeneral, reportManufacturer, reportPhyErrorLog, reportPhyEvent}
 use Rattle.model.specs.Reply.{deviceListed, phyListed, broadcasts, descriptors, reportBroadcast, reportPhyEventList, respond}
@@ -15,6 +15,7 @@ use Rattle.model.specs.Shelf.{freshShelf, noShelf, startTaken, start}
 use Rattle.model.specs.ShelfW.{shelfW}
 use Rattle.model.specs.Sources.{counting, peak, supported}
 use Rattle.model.specs.Store.{store, entries, upTo, indexes, firstIndex, firstReturned, returned}
+use Rattle.model.specs.Tally.{tallied, tallyFrom}
 use Rattle.model.specs.Tests.{allBelow, sumBelow, joinBelow}
 use Rattle.model.specs.Writes.{controlled, setMonitor, setMonitors, setOn, clearMonitor, anyPeak}
 use Rattle.model.specs.Writes.{clearOn, configured, doing, effect}
@@ -26,7 +27,7 @@ unfolding allBelow sumBelow joinBelow rowReaches symmetric legalTable reachSet r
 zones = 0
 
 unfoldable pub counts : ℕ
-unfolding counting peak supported originate counted crosses addError eventOn changeOn
+unfolding counting peak supported originate counted crosses addError errorCut eventOn changeOn
 counts = 0
 
 unfoldable pub stores : ℕ
@@ -50,7 +51,7 @@ unfolding controlled setMonitor setMonitors setOn clearMonitor anyPeak clearOn c
 writes = 0
 
 unfoldable pub runs : ℕ
-unfolding next after told answers aboutPhy linkResetOrDisable crossedOut remains
+unfolding next after told answers tallied tallyFrom aboutPhy linkResetOrDisable crossedOut remains
 runs = 0
 
 unfoldable pub computes : ℕ

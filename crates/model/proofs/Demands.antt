@@ -9,6 +9,7 @@ pub mod Writes
 pub mod Controlled
 pub mod Configured
 pub mod Events
+pub mod ErrorCounts
 pub mod Fits
 pub mod Frames
 pub mod Invariant

@@ -5,6 +5,7 @@ use Rattle.model.specs.CrossedOut.{remains}
 use Rattle.model.specs.Runs.{answers}
 use Rattle.model.specs.ShelfW.{shelfW}
 use Rattle.model.specs.Vectors.CrossedOut.{crossed, stay, whole, rest}
+use Rattle.model.specs.Vectors.Cut.{cut, tallies}
 use Rattle.model.specs.Vectors.EasilyWrong.{easilyWrong1to4, easilyWrong5}
 use Rattle.model.specs.Vectors.Frames.{reads, controls, configures, ignored}
 use Rattle.model.specs.Vectors.Peaks.{peaks}
@@ -79,6 +80,16 @@ peaks-hold =
     (refl, (refl, (refl, (refl, (refl, (refl, (refl, tt)))))))
 
 -- the list of stored peak events
+pub cut-hold : Holds cut
+unfolding cut computes
+cut-hold =
+    (refl, (refl, (refl, (refl, (refl, (refl, (refl, (refl, (refl, (refl, (refl, tt)))))))))))
+
+pub tallies-hold : Holds tallies
+unfolding tallies computes
+tallies-hold =
+    (refl, (refl, (refl, (refl, (refl, (refl, tt))))))
+
 pub stored-hold : Holds stored
 unfolding stored computes
 stored-hold =

@@ -4,6 +4,7 @@ use mathlib.Core.Bool.{Bool, true, false, cond, _&&_}
 use mathlib.Core.List.{List, [], _∷_, map}
 use lib.Dec.{leb, ltb, eqb}
 use lib.ListN.{length, getD, set, replicate}
+use Rattle.model.specs.declared.Added.{Added}
 use Rattle.model.specs.declared.Effect.{Effect}
 use Rattle.model.specs.declared.Monitor.{Monitor}
 use Rattle.model.specs.declared.Phy.{Phy}
@@ -55,9 +56,12 @@ changeOn enabled x =
 abbrev pub addWrapping : ℕ → ℕ → ℕ
 addWrapping value amount = (value + amount) % 2 ^ 32
 
--- "the four error counts .., which stop at FFFFFFFFh"
-abbrev pub addSaturating : ℕ → ℕ → ℕ
-addSaturating count amount = min (count + amount) 0xFFFFFFFF
+-- "the four error counts .., which stop at FFFFFFFFh". #104: "The saturating addition must answer whether the exact sum was above
+-- FFFFFFFFh, as well as the new number."
+abbrev pub addSaturating : ℕ → ℕ → Added
+addSaturating count amount =
+    let sum : ℕ = count + amount in
+    record { number = min sum 0xFFFFFFFF; cut = ltb 0xFFFFFFFF sum }
 
 abbrev pub withValue : Monitor → ℕ → Monitor
 withValue m value = monitor (m .source) value (m .threshold)
@@ -90,8 +94,13 @@ originateCrossings source amount monitors count = originateTimes (length (crosse
 unfoldable pub addError : ℕ → ℕ → List ℕ → List ℕ
 addError source amount errors =
     cond (within 0x01 0x04 source)
-    (set errors (source - 1) (addSaturating (getD errors (source - 1) 0) amount))
+    (set errors (source - 1) (addSaturating (getD errors (source - 1) 0) amount .number))
     errors
+
+-- Whether that addition was cut. #104: ".. and with "no" for sources that have no error count", whatever their monitors do.
+unfoldable pub errorCut : ℕ → ℕ → List ℕ → Bool
+errorCut source amount errors =
+    within 0x01 0x04 source && addSaturating (getD errors (source - 1) 0) amount .cut
 
 -- An event report, on the phy that it names. #101: "Each origination of Expander 1h stores the monitor that crossed, in monitor order if
 -- several do, with its new value".

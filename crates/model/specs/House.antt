@@ -5,6 +5,8 @@
 use Prim.Native.Nat.{ℕ}
 use Rattle.model.specs.declared.Answer.{Answer}
 use Rattle.model.specs.declared.Answer.the-variants.{Response, NoResponse}
+use Rattle.model.specs.declared.EventAnswer.{EventAnswer}
+use Rattle.model.specs.declared.EventAnswer.the-variants.{Counted, NotCounted}
 use Rattle.model.specs.declared.House.{House}
 use Rattle.model.specs.declared.House.the-variants.{PhyNumber, PhyGroup, IllegalTable, SourceGroup, ShortBuffer}
 use Rattle.model.specs.declared.House.the-variants.{CutFrame, NoSuchPhy, EventSource, Amount, WrongFrame}
@@ -25,10 +27,14 @@ houseNumber EventSource = 8
 houseNumber Amount = 9
 houseNumber WrongFrame = 10
 
--- The number that a start or a report, a request, and a reach query is told: 0 where it is not refused.
+-- The number that a start or a link change, an event report, a request, and a reach query is told: 0 where it is not refused.
 abbrev pub takenNumber : Taken → ℕ
 takenNumber Done = 0
 takenNumber (NotDone house) = houseNumber house
+
+abbrev pub eventNumber : EventAnswer → ℕ
+eventNumber (Counted cut) = 0
+eventNumber (NotCounted house) = houseNumber house
 
 abbrev pub answerNumber : Answer → ℕ
 answerNumber (Response size) = 0

@@ -4,13 +4,16 @@ use Prim.Native.Nat.{ℕ}
 use mathlib.Core.Bool.{Bool, not, _&&_, _||_}
 use lib.Dec.{ltb, eqb}
 use Rattle.model.specs.declared.Effect.{Effect}
+use Rattle.model.specs.declared.EventAnswer.{EventAnswer}
+use Rattle.model.specs.declared.EventAnswer.the-variants.{Counted, NotCounted}
+use Rattle.model.specs.declared.EventOutcome.{EventOutcome}
 use Rattle.model.specs.declared.House.the-variants.{NoSuchPhy, EventSource, Amount}
 use Rattle.model.specs.declared.Outcome.{Outcome}
 use Rattle.model.specs.declared.Phy.{Phy}
 use Rattle.model.specs.declared.Shelf.{Shelf}
 use Rattle.model.specs.declared.Taken.{Taken}
 use Rattle.model.specs.declared.Taken.the-variants.{Done, NotDone}
-use Rattle.model.specs.Counting.{originate, changeOn, eventOn}
+use Rattle.model.specs.Counting.{originate, changeOn, errorCut, eventOn}
 use Rattle.model.specs.Shelf.{exists, phyAt, putDevice, outcome}
 use Rattle.model.specs.Sources.{supported}
 use Rattle.model.specs.Store.{carriedOut}
@@ -28,9 +31,18 @@ eventTaken there source amount =
     (given (amountTooLarge source amount) (NotDone Amount)
     Done))
 
-unfoldable pub event : Shelf → ℕ → ℕ → ℕ → Outcome
+-- The answer: #104: "An event report's answer then says whether its own addition was cut". A refused report has no such answer.
+abbrev pub eventAnswer : Taken → Bool → EventAnswer
+eventAnswer Done cut = Counted cut
+eventAnswer (NotDone house) cut = NotCounted house
+
+unfoldable pub event : Shelf → ℕ → ℕ → ℕ → EventOutcome
 event s p source amount =
-    outcome (eventTaken (exists s p) source amount) s (carriedOut s p (eventOn source amount (phyAt s p)))
+    let taken : Taken = eventTaken (exists s p) source amount in
+    record {
+      answer = eventAnswer taken (errorCut source amount (phyAt s p .errors));
+      shelf = outcome taken s (carriedOut s p (eventOn source amount (phyAt s p))) .shelf;
+    }
 
 -- a link change: H7 alone
 abbrev pub linkChangeTaken : Bool → Taken

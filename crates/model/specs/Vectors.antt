@@ -10,5 +10,6 @@ pub mod Stays
 pub mod Peaks
 pub mod Sources
 pub mod Stored
+pub mod Cut
 pub mod CrossedOut
 pub mod Told

@@ -38,6 +38,12 @@ pub struct Effect {
     pub stored: [bool; 4],
 }
 
+// What adding to an error count comes to (#104): the new number, and whether the exact sum was above FFFFFFFFh.
+pub struct Added {
+    pub number: u32,
+    pub cut: bool,
+}
+
 // An entry of the list of stored peak events: the phy, and its monitor (source, value and threshold) as it stood.
 pub struct Entry {
     pub phy: u8,
@@ -154,15 +160,28 @@ pub enum Judged {
     Fails(FunctionResult),
 }
 
-// What a start or a report is told: done, or the house refusal.
+// What a start or a link change is told, and what an event report is judged to be: done, or the house refusal.
 pub enum Taken {
     Done,
     NotDone(House),
 }
 
-// What a start or a report comes to: what is told, and the shelf afterwards.
+// What a start or a link change comes to: what is told, and the shelf afterwards.
 pub struct Outcome {
     pub taken: Taken,
+    pub shelf: Shelf,
+}
+
+// The answer to an event report (#104): counted, and whether its own addition to an error count was cut; or the house
+// refusal.
+pub enum EventAnswer {
+    Counted { cut: bool },
+    NotCounted(House),
+}
+
+// What an event report comes to: its answer, and the shelf afterwards.
+pub struct EventOutcome {
+    pub answer: EventAnswer,
     pub shelf: Shelf,
 }
 

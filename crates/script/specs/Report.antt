@@ -1,12 +1,16 @@
 -- The reports of a script.
 use Prim.Native.Nat.{ℕ, zero, suc}
-use mathlib.Core.Bool.{cond}
+use mathlib.Core.Bool.{false, cond}
 use mathlib.Core.List.{List}
+use Rattle.model.specs.declared.EventAnswer.{EventAnswer}
+use Rattle.model.specs.declared.EventAnswer.the-variants.{Counted}
+use Rattle.model.specs.declared.EventOutcome.{EventOutcome}
 use Rattle.model.specs.declared.Outcome.{Outcome}
+use Rattle.model.specs.declared.Shelf.{Shelf}
 use Rattle.model.specs.declared.Taken.{Taken}
 use Rattle.model.specs.declared.Taken.the-variants.{Done}
 use Rattle.model.specs.Bytes.{text}
-use Rattle.model.specs.Reports.{event, linkChange, reducedFunctionality, sesNotice}
+use Rattle.model.specs.Reports.{eventAnswer, event, linkChange, reducedFunctionality, sesNotice}
 use Rattle.model.specs.Tests.{given}
 use Rattle.words.specs.Words.{shelfOf, laidOver}
 use Rattle.script.specs.declared.report.Report.{Report}
@@ -49,26 +53,31 @@ reportAfter line start =
 abbrev pub readReport : List ℕ → Reading → ReportLine
 readReport line from = reportAfter line (readTimes line from)
 
--- What a report comes to: what is told, and the words afterwards.
+-- What a report comes to: what is told, in the form of an event report's answer, and the words afterwards.
 pub record Made : Type 0 where
-  pub taken : Taken
+  pub answer : EventAnswer
   pub words : List ℕ
 
-abbrev pub made : List ℕ → Outcome → Made
-made ws outcome = record { taken = outcome .taken; words = laidOver ws (outcome .shelf) }
+abbrev pub made : List ℕ → EventAnswer → Shelf → Made
+made ws answer after = record { answer = answer; words = laidOver ws after }
+
+-- a link change and a notice add to no error count, and so are never cut (#104)
+abbrev pub madeUncut : List ℕ → Taken → Shelf → Made
+madeUncut ws taken after = made ws (eventAnswer taken false) after
 
 -- makes a report on the shelf that these words stand for; the notices have no refusal
 unfoldable pub makeReport : List ℕ → Report → Made
-makeReport ws (Event phy source amount) = made ws (event (shelfOf ws) phy source amount)
-makeReport ws (LinkChange phy) = made ws (linkChange (shelfOf ws) phy)
-makeReport ws ReducedFunctionality = made ws (record { taken = Done; shelf = reducedFunctionality (shelfOf ws) })
-makeReport ws SesNotice = made ws (record { taken = Done; shelf = sesNotice (shelfOf ws) })
+makeReport ws (Event phy source amount) =
+    let o : EventOutcome = event (shelfOf ws) phy source amount in made ws (o .answer) (o .shelf)
+makeReport ws (LinkChange phy) = let o : Outcome = linkChange (shelfOf ws) phy in madeUncut ws (o .taken) (o .shelf)
+makeReport ws ReducedFunctionality = madeUncut ws Done (reducedFunctionality (shelfOf ws))
+makeReport ws SesNotice = madeUncut ws Done (sesNotice (shelfOf ws))
 
 -- makes it that many times more
 unfoldable pub makeMore : Made → Report → ℕ → Made
 makeMore before report zero = before
 makeMore before report (suc times) = makeMore (makeReport (before .words) report) report times
 
--- .. that many times in all; 0 times come to `Done`, with the words as they were
+-- .. that many times in all; 0 times come to a report that is counted and not cut, with the words as they were
 abbrev pub makeTimes : List ℕ → Report → ℕ → Made
-makeTimes ws report times = makeMore (record { taken = Done; words = ws }) report times
+makeTimes ws report times = makeMore (record { answer = Counted false; words = ws }) report times

@@ -1,7 +1,8 @@
 // The reports of a script: events, link changes and notices, once or many times.
 use crate::text::Reading;
 use crate::text::read;
-use model::Taken;
+use counters::report::event_answer;
+use model::EventAnswer;
 use server::event;
 use server::link_change;
 use server::notice;
@@ -77,9 +78,10 @@ pub fn read_report(line: &[u8], from: Reading) -> ReportLine
     ReportLine::NoReport
 }
 
-// Makes a report on the shelf in these words. The notices have no refusal.
-fn make_report(words: &mut [u32; WORDS], report: Report) -> Taken
-    ensures told { λ r. ⌜ r ≡ makeReport (now (words .entry)) report .taken ⌝ }
+// Makes a report on the shelf in these words. What is told has the form of an event report's answer: a link change and a
+// notice add to no error count, and so are never cut (#104). The notices have no refusal.
+fn make_report(words: &mut [u32; WORDS], report: Report) -> EventAnswer
+    ensures told { λ r. ⌜ r ≡ makeReport (now (words .entry)) report .answer ⌝ }
     ensures kept { λ _. ⌜ now (words .exit) ≡ makeReport (now (words .entry)) report .words ⌝ }
 {
     match report {
@@ -88,27 +90,27 @@ fn make_report(words: &mut [u32; WORDS], report: Report) -> Taken
             source,
             amount,
         } => event(words, phy, source, amount),
-        Report::LinkChange { phy } => link_change(words, phy),
+        Report::LinkChange { phy } => event_answer(link_change(words, phy), false),
         Report::ReducedFunctionality => {
             notice(words, false);
-            Taken::Done
+            EventAnswer::Counted { cut: false }
         }
         Report::SesNotice => {
             notice(words, true);
-            Taken::Done
+            EventAnswer::Counted { cut: false }
         }
     }
 }
 
-// Makes a report that many times, and tells what the last came to. 0 times come to `Done`, with the words
-// as they were.
-pub fn make_times(words: &mut [u32; WORDS], report: Report, times: u32) -> Taken
-    ensures told { λ r. ⌜ r ≡ makeTimes (now (words .entry)) report times .taken ⌝ }
+// Makes a report that many times, and tells what the last came to. 0 times come to a report that is counted and not cut,
+// with the words as they were.
+pub fn make_times(words: &mut [u32; WORDS], report: Report, times: u32) -> EventAnswer
+    ensures told { λ r. ⌜ r ≡ makeTimes (now (words .entry)) report times .answer ⌝ }
     ensures kept { λ _. ⌜ now (words .exit) ≡ makeTimes (now (words .entry)) report times .words ⌝ }
 {
-    let mut taken = Taken::Done;
+    let mut told = EventAnswer::Counted { cut: false };
     for _ in 0..times {
-        taken = make_report(words, report);
+        told = make_report(words, report);
     }
-    taken
+    told
 }

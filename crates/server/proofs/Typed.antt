@@ -27,7 +27,8 @@ monitors-narrow [] vs is = tt
 monitors-narrow (m ∷ ms) [] is = absurd is
 monitors-narrow (m ∷ ms) (v ∷ vs) is = (omega (arith, is .0 .1 .1 .0 .1), monitors-narrow ms vs (is .1))
 
--- with r for what the call gave, and its `ok`, this is `typed r (ok .1 .1 .1 .1)`
+-- with r for what the call gave, and its `ok`, this is `typed r (ok .1 .1 .1 .1)`; where the effect is r's first field,
+-- `typed (r .effect) (ok .1 .1 .0 .1 .1 .1 .1)`
 pub typed : (e : Effect) {vs ws : List Val}
     → shadow (array-field the-monitor.the-field 4 .row .own ((the-effect.the-type .to e) .1 .1 .0) vs)
     × (shadow (array-field bool-field 4 .row .own ((the-effect.the-type .to e) .1 .1 .1 .0) ws) × Unit {0})

@@ -24,10 +24,12 @@ use crate::storing::store_if;
 use counters::counts::originate;
 use counters::phy::change_on;
 use counters::phy::event_on;
+use counters::report::event_answer;
 use counters::report::event_taken;
 use gate::bytes::byte_at;
 use gate::frame::judge;
 use model::Answer;
+use model::EventAnswer;
 use model::House;
 use model::Judged;
 use model::LEAST_BUFFER;
@@ -93,10 +95,10 @@ pub fn serve(words: &mut [u32; WORDS], source: u32, frame: &[u8], out: &mut [u8]
     Answer::Response(serve_asked(words, source, frame, request, function, out))
 }
 
-// An event report: the phy that it names counts it, and each monitor that crossed is stored; or it is refused, and the shelf
-// is as it was.
-pub fn event(words: &mut [u32; WORDS], phy: u32, source: u32, amount: u32) -> Taken
-    ensures told { λ r. ⌜ r ≡ event (shelfOf (now (words .entry))) phy source amount .taken ⌝ }
+// An event report: the phy that it names counts it, and each monitor that crossed is stored; the answer says whether its own
+// addition to an error count was cut (#104). Or it is refused, and the shelf is as it was.
+pub fn event(words: &mut [u32; WORDS], phy: u32, source: u32, amount: u32) -> EventAnswer
+    ensures told { λ r. ⌜ r ≡ event (shelfOf (now (words .entry))) phy source amount .answer ⌝ }
     ensures kept { λ _.
         ⌜ now (words .exit)
         ≡ laidOver (now (words .entry)) (event (shelfOf (now (words .entry))) phy source amount .shelf) ⌝ }
@@ -104,9 +106,10 @@ pub fn event(words: &mut [u32; WORDS], phy: u32, source: u32, amount: u32) -> Ta
     let all: &[u32] = words;
     let taken = event_taken(there(words, phy), source, amount);
     let Taken::Done = taken else {
-        return taken;
+        return event_answer(taken, false);
     };
-    let done = event_on(source, amount, phy_at(words, phy));
+    let counted = event_on(source, amount, phy_at(words, phy));
+    let done = counted.effect;
     let after = done.phy;
     let monitors = done.monitors;
     let stored = done.stored;
@@ -120,7 +123,7 @@ pub fn event(words: &mut [u32; WORDS], phy: u32, source: u32, amount: u32) -> Ta
         store_if(words, named, stored[2], monitors[2]);
         store_if(words, named, stored[3], monitors[3]);
     }
-    Taken::Done
+    EventAnswer::Counted { cut: counted.cut }
 }
 
 // A link change on a phy, enabled or not: it originates Change, and the change count moves. Or H7.

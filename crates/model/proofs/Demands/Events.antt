@@ -11,11 +11,11 @@ use borrow.Author.Tests.{eqb-true, eqb-false, eq-eqb, ne-eqb}
 use lib.Dec.{T, eqb}
 use lib.ListN.{length, getD, length-map, List·getD-map}
 use lib.Seq.{ext-getD, getD-set-same, getD-set-other}
+use Rattle.model.specs.declared.EventAnswer.the-variants.{Counted}
 use Rattle.model.specs.declared.Monitor.{Monitor}
 use Rattle.model.specs.declared.Phy.{Phy}
 use Rattle.model.specs.declared.Shelf.{Shelf}
-use Rattle.model.specs.declared.Taken.the-variants.{Done}
-use Rattle.model.specs.Counting.{originateTimes, counted, crossed, addError, eventOn}
+use Rattle.model.specs.Counting.{originateTimes, counted, crossed, addError, errorCut, eventOn}
 use Rattle.model.specs.Fits.{Placed}
 use Rattle.model.specs.Reply.{errorAt, monitorAt}
 use Rattle.model.specs.Reports.{eventTaken, event}
@@ -26,7 +26,7 @@ use Rattle.model.specs.Store.{storeAll}
 use Rattle.model.specs.Tests.{within}
 use Rattle.model.proofs.Demands.Fits.{Four}
 use Rattle.model.proofs.Demands.Invariant.{started-placed, phy-placed}
-use Rattle.model.proofs.Laws.Checks.{outcome-taken}
+use Rattle.model.proofs.Laws.Checks.{counted-iff}
 use Rattle.model.proofs.Laws.Places.{any-default}
 use Rattle.model.proofs.Laws.Tests.{is-true, is-false, within-iff, within-true, cond-by, cond-both}
 use Rattle.model.proofs.Plain.Counting.{add-error-length, Crossings, crossings-one, crossed-are}
@@ -67,7 +67,7 @@ pub record PhyCounted (source amount : ℕ) (x y : Phy) : Type 0 where
 
 -- The shelf s became t: phy p is counted, and no other phy, nor any number that is device wide, is another. #101: each monitor that
 -- crossed is stored, in monitor order, with its new value.
-pub record Counted (s : Shelf) (p source amount : ℕ) (t : Shelf) : Type 0 where
+pub record ShelfCounted (s : Shelf) (p source amount : ℕ) (t : Shelf) : Type 0 where
   pub phy : PhyCounted source amount (phyAt s p) (phyAt t p)
   pub only : OnlyPhy s p t
   pub changes : t .changes ≡ s .changes
@@ -180,11 +180,11 @@ phy-one {source} {amount} {x} {y} {z} known a b =
 -- ---- the shelf
 
 -- an event report that is taken, of every shelf whose arrays have their places
-pub placed-event-effect : (s : Shelf) → Placed s → (p source amount : ℕ) → event s p source amount .taken ≡ Done
-    → Counted s p source amount (event s p source amount .shelf)
+pub placed-event-effect : (s : Shelf) → Placed s → (p source amount : ℕ) {cut : Bool} → event s p source amount .answer ≡ Counted cut
+    → ShelfCounted s p source amount (event s p source amount .shelf)
 unfolding event eventOn event-counted
-placed-event-effect s placed p source amount done =
-    let taken : eventTaken (exists s p) source amount ≡ Done = rw outcome-taken at done in
+placed-event-effect s placed p source amount {cut} told =
+    let (taken, _) = counted-iff (eventTaken (exists s p) source amount) (errorCut source amount (phyAt s p .errors)) cut .0 told in
     let (h, four) = phy-placed s p placed (event-done s p source amount .0 taken .phy-exists) in
     rw taken
     (record {
@@ -195,13 +195,13 @@ placed-event-effect s placed p source amount done =
     })
 
 -- For every started shelf, after any operations, and every event report that is taken.
-pub event-effect : (s : Shelf) → Started s → (p source amount : ℕ) → event s p source amount .taken ≡ Done
-    → Counted s p source amount (event s p source amount .shelf)
+pub event-effect : (s : Shelf) → Started s → (p source amount : ℕ) {cut : Bool} → event s p source amount .answer ≡ Counted cut
+    → ShelfCounted s p source amount (event s p source amount .shelf)
 event-effect s started = placed-event-effect s (started-placed s started)
 
 -- no two shelves are left by one report, whose source is supported
 pub event-one-shelf : {s t u : Shelf} {p source amount : ℕ} → T (supported source)
-    → Counted s p source amount t → Counted s p source amount u → t ≡ u
+    → ShelfCounted s p source amount t → ShelfCounted s p source amount u → t ≡ u
 event-one-shelf {p = p} known a b =
     let same = phy-one known (a .phy) (b .phy) in
     let monitors = ap (λ y. y .monitors) same in

@@ -53,7 +53,7 @@ unfolding addError
 add-error-fits source amount errors f = (
   add-error-length source amount errors ∙ f .0,
   cond-both (Each (λ n. n ≤ 0xFFFFFFFF) 0) (within 0x01 0x04 source) _ _
-      (λ i. change-at (λ n. n ≤ 0xFFFFFFFF) 0 (λ n. addSaturating n amount) (λ n h. omega arith) errors _ i (f .1 i))
+      (λ i. change-at (λ n. n ≤ 0xFFFFFFFF) 0 (λ n. addSaturating n amount .number) (λ n h. omega arith) errors _ i (f .1 i))
       (f .1),
 )
 

@@ -6,11 +6,14 @@ use Prim.Native.Nat.{ℕ, _≤_, _<_}
 use native.Mathlib.Nat.{eq-zero-or-pos}
 use native.Mathlib.Omega.{arith}
 use mathlib.Core.Path.{_≡_, refl, sym, ap, subst, _∙_}
-use mathlib.Core.Logic.{_⊎_, inl, inr}
+use mathlib.Core.Logic.{_↔_, _⊎_, inl, inr}
 use mathlib.Core.Bool.{Bool, true, false, cond}
 use mathlib.Core.List.{List, [], _∷_, map}
 use borrow.Author.Tests.{ltb-true, ltb-false, eq-eqb, ne-eqb}
-use lib.Dec.{ltb, eqb}
+use lib.Dec.{T, ltb, eqb}
+use Rattle.model.specs.declared.EventAnswer.{EventAnswer}
+use Rattle.model.specs.declared.EventAnswer.the-variants.{Counted, NotCounted}
+use Rattle.model.specs.declared.EventOutcome.{EventOutcome}
 use Rattle.model.specs.declared.House.the-variants.{SourceGroup}
 use Rattle.model.specs.declared.Outcome.{Outcome}
 use Rattle.model.specs.declared.Reach.the-variants.{Reaches, NoReach}
@@ -18,18 +21,19 @@ use Rattle.model.specs.declared.Shelf.{Shelf}
 use Rattle.model.specs.declared.Taken.{Taken}
 use Rattle.model.specs.declared.Taken.the-variants.{Done, NotDone}
 use Rattle.model.specs.Bytes.{byte}
-use Rattle.model.specs.Counting.{originate, crossed, eventOn, changeOn}
-use Rattle.model.specs.House.{houseNumber, takenNumber, answerNumber}
+use Rattle.model.specs.Counting.{originate, crossed, errorCut, eventOn, changeOn}
+use Rattle.model.specs.House.{houseNumber, takenNumber, eventNumber, answerNumber}
 use Rattle.model.specs.Reach.{reachSet, reachNumber, reachQuery}
 use Rattle.model.specs.Reports.{eventTaken, event, linkChangeTaken, linkChangeOn, linkChange, reducedFunctionality, sesNotice}
 use Rattle.model.specs.Server.{served, lentAfter}
 use Rattle.model.specs.Shelf.{exists, phyAt, put, putDevice, putStore, entryOf, freshShelf, noShelf, outcome, startTaken, start}
 use Rattle.model.specs.Store.{storeAll}
+use Rattle.model.proofs.Demands.ErrorCounts.{CutBy, event-told}
 use Rattle.model.proofs.Demands.Refusals.{startRefusals, requestRefusals, eventRefusals, linkChangeRefusals, start-gives}
-use Rattle.model.proofs.Demands.Refusals.{request-gives, event-gives, link-change-gives, request-refusal}
+use Rattle.model.proofs.Demands.Refusals.{request-gives, event-gives, link-change-gives, request-refusal, event-refusal}
 use Rattle.model.proofs.Demands.Results.{failures, NotRefused, result-drawn, Failed, failed-result, Granted}
 use Rattle.model.proofs.Demands.Results.{granted-result}
-use Rattle.model.proofs.Laws.Checks.{house-some}
+use Rattle.model.proofs.Laws.Checks.{house-some, counted-iff}
 use Rattle.model.proofs.Laws.Drawn.{Draws}
 use Rattle.model.proofs.Laws.Lowest.{Applies, Lowest, Gives}
 use Rattle.model.proofs.Plain.Reach.{reach-answered, reach-refused}
@@ -93,7 +97,7 @@ kind-told s g frame out (IsAccepted answered drawn granted) =
 pub one-end : (s : Shelf) (g : ℕ) (frame out : List ℕ) (a b : RequestEnds s g frame out) → endKind a ≡ endKind b
 one-end s g frame out a b = kind-told s g frame out a ∙ sym (kind-told s g frame out b)
 
--- ---- A start, an event report and a link change is refused, or done.
+-- ---- A start and a link change is refused, or done.
 
 pub data TakenEnds (refusals : List (ℕ × Type 0)) (old new : Shelf) (o : Outcome) : Type 0 where
   NotTaken : (k : ℕ) → 1 ≤ k → takenNumber (o .taken) ≡ k → Lowest refusals k → o .shelf ≡ old
@@ -115,15 +119,6 @@ every-start n groups table identifier =
     every-taken (startRefusals n groups table) (startTaken n groups table) noShelf (freshShelf n groups table identifier)
     (start-gives n groups table identifier)
 
-pub every-event : (s : Shelf) (p source amount : ℕ)
-    → TakenEnds (eventRefusals s p source amount) s
-    (putStore (put s p (eventOn source amount (phyAt s p) .phy) (s .changes))
-    (storeAll (s .store) (map (entryOf p) (crossed source amount (phyAt s p .monitors)))))
-    (event s p source amount)
-unfolding event eventOn
-every-event s p source amount =
-    every-taken (eventRefusals s p source amount) (eventTaken (exists s p) source amount) s _ (event-gives s p source amount)
-
 pub every-link-change : (s : Shelf) (p : ℕ)
     → TakenEnds (linkChangeRefusals s p) s (put s p (linkChangeOn (phyAt s p) .phy) (originate (s .changes))) (linkChange s p)
 unfolding linkChange changeOn
@@ -132,6 +127,36 @@ every-link-change s p =
     subst (λ t. TakenEnds (linkChangeRefusals s p) s t (linkChange s p))
     (ap (putStore new) (change-stores (s .store) p (phyAt s p .enabled) (phyAt s p)))
     (every-taken (linkChangeRefusals s p) (linkChangeTaken (exists s p)) s _ (link-change-gives s p))
+
+-- ---- An event report is refused, or counted, and is told whether its own addition was cut (#104).
+
+-- the shelf that a counted report leaves
+abbrev pub afterReport : Shelf → ℕ → ℕ → ℕ → Shelf
+afterReport s p source amount =
+    putStore (put s p (eventOn source amount (phyAt s p) .phy) (s .changes))
+    (storeAll (s .store) (map (entryOf p) (crossed source amount (phyAt s p .monitors))))
+
+pub data EventEnds (s : Shelf) (p source amount : ℕ) : Type 0 where
+  NotHeard : (k : ℕ) → 1 ≤ k → eventNumber (event s p source amount .answer) ≡ k → Lowest (eventRefusals s p source amount) k
+      → event s p source amount .shelf ≡ s → EventEnds s p source amount
+  IsCounted : (cut : Bool) → event s p source amount .answer ≡ Counted cut → T cut ↔ CutBy s p source amount
+      → ((k : ℕ) → Applies (eventRefusals s p source amount) k → ⊥)
+      → event s p source amount .shelf ≡ afterReport s p source amount → EventEnds s p source amount
+
+pub every-event : (s : Shelf) (p source amount : ℕ) → EventEnds s p source amount
+unfolding event eventOn
+every-event s p source amount = go (event s p source amount .answer) refl
+  where
+    go : (answer : EventAnswer) → event s p source amount .answer ≡ answer → EventEnds s p source amount
+    go (Counted cut) told =
+        let (taken, _) = counted-iff (eventTaken (exists s p) source amount) (errorCut source amount (phyAt s p .errors)) cut .0 told in
+        IsCounted cut told (event-told s p source amount cut .0 told .1) (event-gives s p source amount .none .0 (ap eventNumber told))
+        (rw taken)
+    go (NotCounted house) told =
+        let some : 1 ≤ houseNumber house = house-some house in
+        let number : eventNumber (event s p source amount .answer) ≡ houseNumber house = ap eventNumber told in
+        NotHeard (houseNumber house) some number (event-gives s p source amount .each (houseNumber house) .0 (some, number))
+        (event-refusal s p source amount (rw number some))
 
 -- ---- A reach query is refused with H4, or answered with both numbers; a device notice is always done.
 

@@ -10,7 +10,7 @@ use lib.Dec.{T, ltb, eqb}
 use lib.ListN.{length, getD}
 use Rattle.model.specs.declared.Shelf.{Shelf}
 use Rattle.model.specs.Bytes.{byte}
-use Rattle.model.specs.House.{takenNumber, answerNumber, queryNumber}
+use Rattle.model.specs.House.{takenNumber, eventNumber, answerNumber, queryNumber}
 use Rattle.model.specs.Reach.{reachQuery}
 use Rattle.model.specs.Reports.{eventTaken, event, linkChangeTaken, linkChange}
 use Rattle.model.specs.Request.{cutFrame, wrongFrame}
@@ -19,9 +19,9 @@ use Rattle.model.specs.Shelf.{exists, noShelf, groupsFit, startTaken, st
 use Rattle.model.specs.Sources.{supported}
 use Rattle.model.specs.Tests.{within}
 use Rattle.model.specs.Zone.{zoneGroup, legalTable}
-use Rattle.model.proofs.Laws.Checks.{outcome-taken, outcome-stays}
+use Rattle.model.proofs.Laws.Checks.{answer-number, outcome-taken, outcome-stays}
 use Rattle.model.proofs.Laws.Handled.{concluded, handled, concluded-all, handled-all}
-use Rattle.model.proofs.Laws.Lowest.{Applies, Gives, firstGiven, no-more, says, row-gives}
+use Rattle.model.proofs.Laws.Lowest.{Gives, firstGiven, no-more, says, row-gives, place-given}
 use Rattle.model.proofs.Laws.Tests.{check-map, denied-iff, either-iff, above-iff, ltb-iff, eqb-iff}
 use Rattle.model.proofs.Laws.Tests.{within-iff, some-below-iff, not-above}
 use Rattle.model.proofs.Plain.Reports.{amount-iff, eventTests, event-number, phyTests, link-change-number}
@@ -115,56 +115,29 @@ request-gives s g frame out =
 
 -- #103, "Tell a cut frame from a wrong one": from a zone group, with room for the response, H6 is given exactly for a frame of under four
 -- bytes, and H10 exactly for one of four or more whose first byte is not 40h.
-module _ (s : Shelf) (g : ℕ) (frame out : List ℕ) where
-  by-refusal : {P : Type 0} (k : ℕ) → Applies (requestRefusals g frame out) k
-      → (k ≡ 4 → 31 < g → P) → (k ≡ 5 → length out < leastBuffer → P) → (k ≡ 6 → length frame < 4 → P)
-      → (k ≡ 10 → (byte frame 0 ≡ 0x40 → ⊥) → P) → P
-  by-refusal k (inl (e, h)) p4 p5 p6 p10 = p4 e h
-  by-refusal k (inr (inl (e, h))) p4 p5 p6 p10 = p5 e h
-  by-refusal k (inr (inr (inl (e, h)))) p4 p5 p6 p10 = p6 e h
-  by-refusal k (inr (inr (inr (inl (e, h))))) p4 p5 p6 p10 = p10 e h
-  by-refusal k (inr (inr (inr (inr none)))) p4 p5 p6 p10 = absurd none
+pub cut-told : (s : Shelf) (g : ℕ) (frame out : List ℕ)
+    → (answerNumber (served s g frame out .answer) ≡ 6)
+    ↔ ((g ≤ 31) × (leastBuffer ≤ length out) × (length frame < 4))
+cut-told s g frame out =
+    Iff·trans (place-given (requestRefusals g frame out) tt (request-gives s g frame out) 2 tt) (
+      λ (group, (room, cut)). (not-above group, not-above room, cut),
+      λ (group, room, cut). (λ h. omega arith, (λ h. omega arith, cut)),
+    )
 
-  pub cut-told : (answerNumber (served s g frame out .answer) ≡ 6)
-      ↔ ((g ≤ 31) × (leastBuffer ≤ length out) × (length frame < 4))
-  cut-told = (
-    λ e.
-        let (applies, least) = request-gives s g frame out .each 6 .0 (omega arith, e) in (
-          not-above (λ h. least 4 (omega arith) (inl (refl, h))),
-          not-above (λ h. least 5 (omega arith) (inr (inl (refl, h)))),
-          by-refusal 6 applies (λ e h. absurd (omega arith)) (λ e h. absurd (omega arith)) (λ e h. h) (λ e h. absurd (omega arith)),
-        ),
-    λ (group, room, cut).
-        request-gives s g frame out .each 6 .1 (
-          inr (inr (inl (refl, cut))),
-          λ j below there.
-              by-refusal j there (λ e h. omega arith) (λ e h. omega arith) (λ e h. omega arith) (λ e h. omega arith),
-        ) .1,
-  )
-
-  pub wrong-told : (answerNumber (served s g frame out .answer) ≡ 10)
-      ↔ ((g ≤ 31) × (leastBuffer ≤ length out) × (4 ≤ length frame) × (byte frame 0 ≡ 0x40 → ⊥))
-  wrong-told = (
-    λ e.
-        let (applies, least) = request-gives s g frame out .each 10 .0 (omega arith, e) in (
-          not-above (λ h. least 4 (omega arith) (inl (refl, h))),
-          not-above (λ h. least 5 (omega arith) (inr (inl (refl, h)))),
-          not-above (λ h. least 6 (omega arith) (inr (inr (inl (refl, h))))),
-          by-refusal 10 applies (λ e h. absurd (omega arith)) (λ e h. absurd (omega arith)) (λ e h. absurd (omega arith)) (λ e h. h),
-        ),
-    λ (group, room, whole, wrong).
-        request-gives s g frame out .each 10 .1 (
-          inr (inr (inr (inl (refl, wrong)))),
-          λ j below there.
-              by-refusal j there (λ e h. omega arith) (λ e h. omega arith) (λ e h. omega arith) (λ e h. omega arith),
-        ) .1,
-  )
+pub wrong-told : (s : Shelf) (g : ℕ) (frame out : List ℕ)
+    → (answerNumber (served s g frame out .answer) ≡ 10)
+    ↔ ((g ≤ 31) × (leastBuffer ≤ length out) × (4 ≤ length frame) × (byte frame 0 ≡ 0x40 → ⊥))
+wrong-told s g frame out =
+    Iff·trans (place-given (requestRefusals g frame out) tt (request-gives s g frame out) 3 tt) (
+      λ (group, (room, (whole, wrong))). (not-above group, not-above room, not-above whole, wrong),
+      λ (group, room, whole, wrong). (λ h. omega arith, (λ h. omega arith, (λ h. omega arith, wrong))),
+    )
 
 pub event-gives : (s : Shelf) (p source amount : ℕ)
-    → Gives (eventRefusals s p source amount) (takenNumber (event s p source amount .taken))
+    → Gives (eventRefusals s p source amount) (eventNumber (event s p source amount .answer))
 unfolding event
 event-gives s p source amount =
-    rw (outcome-taken, event-number s p source amount)
+    rw (answer-number, event-number s p source amount)
     (row-gives (eventTests s p source amount) (eventRefusals s p source amount) tt
     (says (denied-iff (exists s p) Iff·rfl)
     (says (either-iff (eqb source 0x00) (not (supported source)) (eqb-iff source 0x00) (denied-iff (supported source) Iff·rfl))
@@ -201,10 +174,10 @@ request-refusal s g frame out =
     (λ refused. absurd (omega arith))
     (λ e refused. absurd (omega arith))
 
-pub event-refusal : (s : Shelf) (p source amount : ℕ) → 1 ≤ takenNumber (event s p source amount .taken)
+pub event-refusal : (s : Shelf) (p source amount : ℕ) → 1 ≤ eventNumber (event s p source amount .answer)
     → event s p source amount .shelf ≡ s
 unfolding event
-event-refusal s p source amount = rw outcome-taken (outcome-stays (eventTaken (exists s p) source amount) s _)
+event-refusal s p source amount = rw answer-number (outcome-stays (eventTaken (exists s p) source amount) s _)
 
 pub link-change-refusal : (s : Shelf) (p : ℕ) → 1 ≤ takenNumber (linkChange s p .taken) → linkChange s p .shelf ≡ s
 unfolding linkChange

@@ -1,9 +1,10 @@
 -- What a start or a report is told, what becomes of the shelf, and what is known of a request that passed its checks. Assumes nothing.
 use Prim.Native.Nat.{ℕ, _≤_}
 use native.Mathlib.Omega.{arith}
-use mathlib.Core.Path.{_≡_, refl, sym, _∙_}
+use mathlib.Core.Path.{_≡_, refl, sym, ap, _∙_}
 use mathlib.Core.Logic.{_↔_}
 use mathlib.Core.Bool.{Bool, true, false, false≢true}
+use Rattle.model.specs.declared.EventAnswer.the-variants.{Counted, NotCounted}
 use Rattle.model.specs.declared.FunctionResult.{FunctionResult}
 use Rattle.model.specs.declared.FunctionResult.the-variants.{Accepted, InvalidExpanderChangeCount, PhyDoesNotExist}
 use Rattle.model.specs.declared.FunctionResult.the-variants.{PhyVacant, SmpZoneViolation, NoManagementAccessRights}
@@ -14,28 +15,44 @@ use Rattle.model.specs.declared.House.the-variants.{CutFrame, NoSuchPhy,
 use Rattle.model.specs.declared.Shelf.{Shelf}
 use Rattle.model.specs.declared.Taken.{Taken}
 use Rattle.model.specs.declared.Taken.the-variants.{Done, NotDone}
-use Rattle.model.specs.House.{houseNumber, takenNumber}
+use Rattle.model.specs.House.{houseNumber, takenNumber, eventNumber}
+use Rattle.model.specs.Reports.{eventAnswer}
 use Rattle.model.specs.Results.{accepted, countRight, checkPhy, checkRead, checkWrite, checkManagement}
 use Rattle.model.specs.Shelf.{outcome}
 use Rattle.model.specs.Tests.{check}
 
--- every house refusal has a number from 1 on
+-- every house refusal has a number, from 1 to 10
+pub house-range : (house : House) → (1 ≤ houseNumber house) × (houseNumber house ≤ 10)
+house-range PhyNumber = (omega arith, omega arith)
+house-range PhyGroup = (omega arith, omega arith)
+house-range IllegalTable = (omega arith, omega arith)
+house-range SourceGroup = (omega arith, omega arith)
+house-range ShortBuffer = (omega arith, omega arith)
+house-range CutFrame = (omega arith, omega arith)
+house-range NoSuchPhy = (omega arith, omega arith)
+house-range EventSource = (omega arith, omega arith)
+house-range Amount = (omega arith, omega arith)
+house-range WrongFrame = (omega arith, omega arith)
+
 pub house-some : (house : House) → 1 ≤ houseNumber house
-house-some PhyNumber = omega arith
-house-some PhyGroup = omega arith
-house-some IllegalTable = omega arith
-house-some SourceGroup = omega arith
-house-some ShortBuffer = omega arith
-house-some CutFrame = omega arith
-house-some NoSuchPhy = omega arith
-house-some EventSource = omega arith
-house-some Amount = omega arith
-house-some WrongFrame = omega arith
+house-some house = house-range house .0
 
 -- so what is told is done exactly if its number is 0
 pub done-iff : (taken : Taken) → (taken ≡ Done) ↔ (takenNumber taken ≡ 0)
 done-iff Done = (λ e. refl, λ e. refl)
 done-iff (NotDone house) = (λ e. cc, λ e. absurd (omega (arith, house-some house)))
+
+-- an event report's answer has the number of what it was judged to be; and is "counted" exactly if that is done
+pub answer-number : (taken : Taken) (cut : Bool) → eventNumber (eventAnswer taken cut) ≡ takenNumber taken
+answer-number Done cut = refl
+answer-number (NotDone house) cut = refl
+
+pub counted-iff : (taken : Taken) (found cut : Bool) → (eventAnswer taken found ≡ Counted cut) ↔ ((taken ≡ Done) × (found ≡ cut))
+counted-iff Done found cut = (λ e. (refl, cc), λ (_, e). ap Counted e)
+counted-iff (NotDone house) found cut = (λ e. absurd (refused-apart e), λ (e, _). absurd (omega (arith, house-some house, done-iff (NotDone house) .0 e)))
+  where
+    refused-apart : NotCounted house ≡ Counted cut → ⊥
+    refused-apart e = let z : houseNumber house ≡ 0 = ap eventNumber e in omega (arith, house-some house)
 
 -- what is told of an outcome is what was judged
 pub outcome-taken : (taken : Taken) (old new : Shelf) → outcome taken old new .taken ≡ taken

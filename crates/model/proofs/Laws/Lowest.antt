@@ -1,5 +1,5 @@
 -- "The lowest number that applies is given." Assumes nothing.
-use Prim.Native.Nat.{ℕ, _≤_, _<_}
+use Prim.Native.Nat.{ℕ, zero, suc, _≤_, _<_}
 use native.Mathlib.Omega.{arith}
 use mathlib.Core.Path.{_≡_, refl}
 use mathlib.Core.Logic.{_↔_, _⊎_, inl, inr, ⊎-elim, Iff·trans}
@@ -84,6 +84,54 @@ none-drawn ((m, A) ∷ rest) n rises =
           (λ (fails, drawn-later) k. ⊎-elim (λ here. fails (here .1)) (λ there. later .0 drawn-later k there)),
       λ none. inr (λ holds. none m (inl (refl, holds)), later .1 (λ k there. none k (inr there))),
     )
+
+-- ---- So each number is given exactly if its condition holds and none before it in the row does.
+
+abbrev pub numberAt : List (ℕ × Type 0) → ℕ → ℕ
+numberAt [] i = 0
+numberAt (refusal ∷ rest) zero = refusal .0
+numberAt (refusal ∷ rest) (suc i) = numberAt rest i
+
+abbrev pub FirstAt : List (ℕ × Type 0) → ℕ → Type 0
+FirstAt [] i = ⊥
+FirstAt (refusal ∷ rest) zero = refusal .1
+FirstAt (refusal ∷ rest) (suc i) = (refusal .1 → ⊥) × FirstAt rest i
+
+-- past the end stands 0, and before it a number above n
+numbers-above : (refusals : List (ℕ × Type 0)) (n i : ℕ) → Rising n refusals → (numberAt refusals i ≡ 0) ⊎ (n < numberAt refusals i)
+numbers-above [] n i rises = inl refl
+numbers-above ((m, A) ∷ rest) n zero rises = inr (rises .0)
+numbers-above ((m, A) ∷ rest) n (suc i) rises =
+    ⊎-elim (λ e. inl e) (λ above. inr (omega (arith, rises .0))) (numbers-above rest m i (rises .1))
+
+lowest-first : (refusals : List (ℕ × Type 0)) (n i : ℕ) → Rising n refusals → Lowest refusals (numberAt refusals i) ↔ FirstAt refusals i
+lowest-first [] n i rises = (λ h. h .0, λ h. absurd h)
+lowest-first ((m, A) ∷ rest) n zero rises = (
+  λ (applies, least). ⊎-elim (λ here. here .1) (λ there. absurd (omega (arith, applies-above rest m m (rises .1) there))) applies,
+  λ holds. (
+    inl (refl, holds),
+    λ j below. ⊎-elim (λ here. omega (arith, here .0)) (λ there. omega (arith, applies-above rest m j (rises .1) there)),
+  ),
+)
+lowest-first ((m, A) ∷ rest) n (suc i) rises =
+    let later = lowest-first rest m i (rises .1) in (
+      λ (applies, least).
+          let there : Applies rest (numberAt rest i) =
+          ⊎-elim (λ here. ⊎-elim (λ past. absurd (omega (arith, here .0, rises .0))) (λ more. absurd (omega (arith, here .0))) (numbers-above rest m i (rises .1)))
+          (λ t. t)
+          applies in
+          let above : m < numberAt rest i = applies-above rest m (numberAt rest i) (rises .1) there in
+          (λ holds. least m above (inl (refl, holds)), later .0 (there, λ j below t. least j below (inr t))),
+      λ (fails, first).
+          let (there, least) = later .1 first in
+          (inr there, λ j below. ⊎-elim (λ here. fails (here .1)) (least j below)),
+    )
+
+pub place-given : (refusals : List (ℕ × Type 0)) → T (rising 0 refusals) → {told : ℕ} → Gives refusals told → (i : ℕ)
+    → T (ltb 0 (numberAt refusals i)) → (told ≡ numberAt refusals i) ↔ FirstAt refusals i
+place-given refusals t gives i some =
+    Iff·trans (λ e. (ltb-iff 0 (numberAt refusals i) .0 some, e), λ h. h .1)
+    (Iff·trans (gives .each (numberAt refusals i)) (lowest-first refusals 0 i (rising-says refusals 0 t)))
 
 -- ---- So a row of tests that say these conditions gives it: the number of the first that holds, or 0.
 

@@ -57,6 +57,13 @@ pub fails-under-iff : (m a : Bool) {M A : Type 0} → T m ↔ M → T a ↔ A �
 fails-under-iff true a f g = (λ no-t. (f .0 tt, Iff·not g .0 no-t), λ h. Iff·not g .1 (h .1))
 fails-under-iff false a f g = (λ no-t. absurd (no-t tt), λ h. absurd (f .1 (h .0)))
 
+-- two tests that say the same are one
+pub iff-same : (a b : Bool) → T a ↔ T b → a ≡ b
+iff-same true true same = refl
+iff-same true false same = absurd (same .0 tt)
+iff-same false true same = absurd (same .1 tt)
+iff-same false false same = refl
+
 -- a test of several parts, from what each part says
 pub both-iff : (a b : Bool) {A B : Type 0} → T a ↔ A → T b ↔ B → T (a && b) ↔ (A × B)
 both-iff a b f g = Iff·trans (and-iff a b) (Iff·and f g)

@@ -1,17 +1,17 @@
--- Originating, the two additions, the crossing of a threshold and which monitors cross theirs, in plain logic. Assumes nothing.
-use Prim.Native.Nat.{ℕ, zero, suc, _+_, _-_, _^_, _≤_, _<_}
+-- Originating, the two additions and when the second is cut, the crossing of a threshold and which monitors cross theirs, in plain logic. Assumes nothing.
+use Prim.Native.Nat.{ℕ, zero, suc, _+_, _-_, _^_, _≤_, _<_, min}
 use native.Mathlib.Nat.{mod-eq-of-lt, eq-or-lt-of-le}
 use native.Mathlib.Omega.{arith}
 use mathlib.Core.Path.{_≡_, refl, ap, _∙_}
 use mathlib.Core.Logic.{_↔_, ⊎-elim, Iff·rfl, Iff·trans}
 use mathlib.Core.Bool.{Bool, true, false, cond}
 use mathlib.Core.List.{List, [], _∷_, map}
-use borrow.Author.Tests.{ne-eqb}
+use borrow.Author.Tests.{lt-ltb, le-ltb, ne-eqb}
 use lib.Dec.{T, leb, ltb}
-use lib.ListN.{length, replicate, length-set}
+use lib.ListN.{length, getD, replicate, length-set}
 use Rattle.model.specs.declared.Monitor.{Monitor}
 use Rattle.model.specs.Counting.{originate, originateIf, originateTimes, addWrapping, addSaturating, counted, picked, crosses, crossed}
-use Rattle.model.specs.Counting.{originateCrossings, addError}
+use Rattle.model.specs.Counting.{originateCrossings, addError, errorCut}
 use Rattle.model.specs.Sources.{peak}
 use Rattle.model.specs.Tests.{within}
 use Rattle.model.proofs.Laws.Places.{All}
@@ -42,14 +42,32 @@ pub wrapping-wraps : (value amount : ℕ) → value < 2 ^ 32 → amount < 2 ^ 32
     → addWrapping value amount ≡ value + amount - 2 ^ 32
 wrapping-wraps value amount v a h = omega arith
 
--- "which stop at FFFFFFFFh"
+-- "which stop at FFFFFFFFh"; #104: the new number, and whether the exact sum was above FFFFFFFFh
 pub saturating-fits : (count amount : ℕ) → count + amount ≤ 0xFFFFFFFF
-    → addSaturating count amount ≡ count + amount
-saturating-fits count amount h = omega arith
+    → addSaturating count amount ≡ record { number = count + amount; cut = false }
+saturating-fits count amount h =
+    let whole : min (count + amount) 0xFFFFFFFF ≡ count + amount = omega arith in
+    rw (le-ltb 0xFFFFFFFF (count + amount) h, whole)
 
-pub saturating-stops : (count amount : ℕ) → 0xFFFFFFFF ≤ count + amount
-    → addSaturating count amount ≡ 0xFFFFFFFF
-saturating-stops count amount h = omega arith
+pub saturating-stops : (count amount : ℕ) → 0xFFFFFFFF < count + amount
+    → addSaturating count amount ≡ record { number = 0xFFFFFFFF; cut = true }
+saturating-stops count amount h =
+    let most : min (count + amount) 0xFFFFFFFF ≡ 0xFFFFFFFF = omega arith in
+    rw (lt-ltb 0xFFFFFFFF (count + amount) h, most)
+
+-- #104: it "must answer whether the exact sum was above FFFFFFFFh"
+pub saturating-cut : (count amount : ℕ) → T (addSaturating count amount .cut) ↔ (0xFFFFFFFF < count + amount)
+saturating-cut count amount = ltb-iff 0xFFFFFFFF (count + amount)
+
+-- and a report is cut exactly where it adds to an error count and that addition is
+pub error-cut-iff : (source amount : ℕ) (errors : List ℕ)
+    → T (errorCut source amount errors)
+    ↔ ((0x01 ≤ source) × (source ≤ 0x04) × (0xFFFFFFFF < getD errors (source - 1) 0 + amount))
+unfolding errorCut
+error-cut-iff source amount errors =
+    let count : ℕ = getD errors (source - 1) 0 in
+    all-three-iff (leb 0x01 source) (leb source 0x04) (addSaturating count amount .cut) (leb-iff 0x01 source) (leb-iff source 0x04)
+    (saturating-cut count amount)
 
 -- an event report adds in a place, and adds or drops none
 pub add-error-length : (source amount : ℕ) (errors : List ℕ) → length (addError source amount errors) ≡ length errors

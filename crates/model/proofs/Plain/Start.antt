@@ -6,7 +6,7 @@ use mathlib.Core.Logic.{_↔_, Iff·trans}
 use mathlib.Core.Bool.{Bool, not}
 use mathlib.Core.List.{List, [], _∷_}
 use lib.Dec.{T}
-use lib.ListN.{length, getD}
+use lib.ListN.{length, getD, List·getD-eq-default}
 use Rattle.model.specs.declared.Taken.the-variants.{Done}
 use Rattle.model.specs.House.{takenNumber}
 use Rattle.model.specs.Shelf.{phyAt, noPhy, freshPhy, startGroup, freshPhys, freshShelf, groupsFit, startTaken}
@@ -61,3 +61,8 @@ pub fresh-phys : (n : ℕ) (groups table identifier : List ℕ) (p : ℕ) → p 
     → phyAt (freshShelf n groups table identifier) p ≡ freshPhy (startGroup n groups p)
 unfolding freshShelf
 fresh-phys n groups table identifier p h = join-at 24 (λ q. freshPhy (startGroup n groups q)) noPhy p h
+
+-- and past the 24 places stands a fresh phy of group 0
+pub fresh-past : (n : ℕ) (groups table identifier : List ℕ) (p : ℕ) → 24 ≤ p → phyAt (freshShelf n groups table identifier) p ≡ noPhy
+unfolding freshShelf
+fresh-past n groups table identifier p above = List·getD-eq-default (freshPhys n groups) noPhy {n = p} (rw (fresh-size n groups) above)

@@ -4,7 +4,7 @@ use mathlib.Core.List.{List, [], _∷_, _++_}
 use lib.ListN.{set}
 use Rattle.model.specs.Cases.{Case, Lend, Look, H, Numbers, fresh, ReachOf, Set}
 use Rattle.model.specs.Hex.{hex}
-use Rattle.model.specs.House.{takenNumber}
+use Rattle.model.specs.House.{takenNumber, eventNumber}
 use Rattle.model.specs.Reports.{event, linkChange}
 use Rattle.model.specs.Server.{served, lentAfter}
 use Rattle.model.specs.Vectors.Tools.{readBroadcastsFrame, readPhyFrame, controlFrame, old, answerNumbers}
@@ -39,16 +39,16 @@ refusals =
     -- events: H7 first, whole numbers; H8; H9 at its two limits; link changes: H7, FFh no phy
     ∷ fresh 7
     (Look
-    (λ s. takenNumber (event s 4 0x00 0 .taken)
-    ∷ takenNumber (event s 256 0x01 0 .taken)
-    ∷ takenNumber (event s 0 0x00 0 .taken)
-    ∷ takenNumber (event s 0 0x07 0 .taken)
-    ∷ takenNumber (event s 0 0x12D 0 .taken)
-    ∷ takenNumber (event s 0 0x2B 0xFF .taken)
-    ∷ takenNumber (event s 0 0x2B 0x100 .taken)
-    ∷ takenNumber (event s 0 0x2C 0xFFFF .taken)
-    ∷ takenNumber (event s 0 0x2C 0x10000 .taken)
-    ∷ takenNumber (event s 3 0x2D 0xFFFFFFFF .taken)
+    (λ s. eventNumber (event s 4 0x00 0 .answer)
+    ∷ eventNumber (event s 256 0x01 0 .answer)
+    ∷ eventNumber (event s 0 0x00 0 .answer)
+    ∷ eventNumber (event s 0 0x07 0 .answer)
+    ∷ eventNumber (event s 0 0x12D 0 .answer)
+    ∷ eventNumber (event s 0 0x2B 0xFF .answer)
+    ∷ eventNumber (event s 0 0x2B 0x100 .answer)
+    ∷ eventNumber (event s 0 0x2C 0xFFFF .answer)
+    ∷ eventNumber (event s 0 0x2C 0x10000 .answer)
+    ∷ eventNumber (event s 3 0x2D 0xFFFFFFFF .answer)
     ∷ takenNumber (linkChange s 3 .taken)
     ∷ takenNumber (linkChange s 0xFF .taken)
     ∷ []))

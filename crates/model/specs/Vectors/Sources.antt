@@ -9,7 +9,7 @@ use Rattle.model.specs.declared.Shelf.{Shelf}
 use Rattle.model.specs.Bytes.{byte}
 use Rattle.model.specs.Cases.{Case, Look, Numbers, fresh}
 use Rattle.model.specs.Hex.{hex}
-use Rattle.model.specs.House.{takenNumber}
+use Rattle.model.specs.House.{eventNumber}
 use Rattle.model.specs.Reports.{event}
 use Rattle.model.specs.Server.{lent, handle}
 use Rattle.model.specs.Sources.{counting, peak}
@@ -37,7 +37,7 @@ sources =
     ∷ fresh 2 (Look (λ s. those peak)) (Numbers (hex "2B 2C 2D 2E"))
     -- H8 for 00h, none for 01h to 06h, H8 for 07h to 1Fh, none for 20h to 2Eh, H8 for 2Fh to 3Fh, none for 40h to 45h, H8 from 46h on
     ∷ fresh 3
-    (Look (λ s. eachSource (λ source. takenNumber (event s 0 source 1 .taken))))
+    (Look (λ s. eachSource (λ source. eventNumber (event s 0 source 1 .answer))))
     (Numbers
     (8
     ∷ replicate 6 0

@@ -2,7 +2,8 @@
 use borrow.Author.Needs.{needs}
 use Prim.Native.Nat.{_≤_}
 use native.Mathlib.Omega.{arith}
-use Rattle.model.specs.Counting.{addError}
+use mathlib.Core.Path.{refl}
+use Rattle.model.specs.Counting.{addError, errorCut}
 use Rattle.model.proofs.Laws.Tests.{within-true}
 use Rattle.counters.proofs.phy.add_error.Statement.{statement}
 use Rattle.counters.proofs.phy.add_error.Tie as tie
@@ -20,12 +21,12 @@ array-write-after : tie.Need-array-write-after
 array-write-after c = omega (arith, in-range (c .before))
 
 returns : tie.Need-returns
-unfolding addError
-returns c = rw (c .before .if1 .taken, c .add-saturating .ensures)
+unfolding addError errorCut
+returns c = rw (c .before .if1 .taken, c .add-saturating .ensures) (refl, refl)
 
 returns-2 : tie.Need-returns-2
-unfolding addError
-returns-2 c = rw (c .if1 .left)
+unfolding addError errorCut
+returns-2 c = rw (c .if1 .left) (refl, refl)
 
 pub add-error-spec : {M : Type 1} → statement M
 add-error-spec =

@@ -13,20 +13,28 @@ use Rattle.counters.proofs.phy.event_on.Tie as tie
 
 -- the four marks that are read are all there are
 marks-read : (c : tie.After-originate-marked)
-    → c .originate-marked .result ≡ originateMarked (c .before .crossings .result) (c .before .before .before .before .before .before .args .before .expander1)
+    → let marked = c .before .before in
+    let a = marked .before .before .before .before .before .args in
+    c .originate-marked .result ≡ originateMarked (marked .crossings .result) (a .before .expander1)
 marks-read c =
-    four false (λ marks. originateMarked marks (c .before .before .before .before .before .before .args .before .expander1)) (c .before .crossings .result) (omega arith)
+    let marked = c .before .before in
+    let a = marked .before .before .before .before .before .args in
+    four false (λ marks. originateMarked marks (a .before .expander1)) (marked .crossings .result) (omega arith)
     (c .originate-marked .ensures)
 
 returns : tie.Need-returns
 unfolding eventOn
 returns c =
-    rw (
-      marks-read c,
-      c .before .crossings .ensures,
-      c .before .before .counted-monitors .ensures,
-      c .before .before .before .add-error .ensures,
-      marked-crossed,
+    let marked = c .before .before in
+    let added = marked .before .before .add-error .ensures in (
+      rw (
+        marks-read c,
+        marked .crossings .ensures,
+        marked .before .counted-monitors .ensures,
+        added .0,
+        marked-crossed,
+      ),
+      added .1,
     )
 
 pub event-on-spec : {M : Type 1} → statement M

@@ -11,13 +11,13 @@ use Rattle.script.proofs.report.make_times.Statement.{statement}
 use Rattle.script.proofs.report.make_times.Tie as tie
 
 abbrev Inv-loop : tie.InvT-loop
-Inv-loop words₀ report times taken₀ counter₀ words taken counter =
+Inv-loop words₀ report times told₀ counter₀ words told counter =
     (counter ≤ times)
-    × (makeMore (record { taken = taken; words = words }) report (times - counter)
-    ≡ makeMore (record { taken = taken₀; words = words₀ }) report times)
+    × (makeMore (record { answer = told; words = words }) report (times - counter)
+    ≡ makeMore (record { answer = told₀; words = words₀ }) report times)
 
 abbrev μ-loop : tie.MeasureT-loop
-μ-loop words₀ report times taken₀ counter₀ words taken counter = times - counter
+μ-loop words₀ report times told₀ counter₀ words told counter = times - counter
 
 loop-holds : tie.Need-loop-holds Inv-loop μ-loop
 loop-holds c = (omega arith, rw sub-zero)
@@ -43,7 +43,7 @@ unfolding makeMore
 returns c =
     let done : c .before .before .args .times - c .before .loop .counter ≡ 0 = omega arith in
     let made = rw done at (c .before .loop .inv .1) in
-    (ap (λ (m : Made). m .taken) made, ap (λ (m : Made). m .words) made)
+    (ap (λ (m : Made). m .answer) made, ap (λ (m : Made). m .words) made)
 
 pub make-times-spec : {M : Type 1} → statement M
 make-times-spec =
