@@ -144,9 +144,17 @@ uint32_t smp_start(struct smp_shelf *shelf, uint32_t number, const uint32_t grou
 uint32_t smp_serve(struct smp_shelf *shelf, uint32_t source, const uint8_t *frame, size_t size,
                    uint8_t *out, size_t room);
 
-/* An event report. Tells 0; or H7, H8 or H9. The numbers are taken whole, and not cut to 8 bits.
- * docs/SOURCES.md lists the event sources, with their T10 names and largest amounts. */
+/* An event report. Tells 0 where it is counted; 1 where it is counted and its own addition to an error
+ * count was cut; or H7, H8 or H9. The numbers are taken whole, and not shortened to 8 bits.
+ * docs/SOURCES.md lists the event sources, with their T10 names and largest amounts.
+ *
+ * Cut: the source is 01h to 04h, and the count before plus the amount was above FFFFFFFFh. The count
+ * then stands at FFFFFFFFh, and is exact again only after a 91h with operation 05h, or a start. A sum
+ * of exactly FFFFFFFFh is not cut, and a monitor that wraps is not. (Until #104 a report that was cut
+ * was told 0 too: what asks for 0 has to ask smp_refused.) smp_cut says whether it was; no other
+ * function tells 1. */
 uint32_t smp_event(struct smp_shelf *shelf, uint32_t phy, uint32_t source, uint32_t amount);
+static inline bool smp_cut(uint32_t told) { return told == 1; }
 
 /* A link change on a phy. Tells 0; or H7. */
 uint32_t smp_link_change(struct smp_shelf *shelf, uint32_t phy);

@@ -6,8 +6,8 @@
  * At the end stands whether any word of the shelf is another than before.
  *
  * shelf_day.expected was worked out from what document 01, and document 02's #101 for the list of
- * stored peak events and #103 for H10, say; it stands at each step. firmware/run builds this program,
- * runs it and compares.
+ * stored peak events, #103 for H10 and #104 for an addition that was cut, say; it stands at each step.
+ * firmware/run builds this program, runs it and compares.
  */
 #include "kinubarsil.h"
 #include "smp_gate.h"
@@ -99,8 +99,12 @@ static void report(const char *what, uint32_t told)
 
 static void event(uint32_t phy, uint32_t source, uint32_t amount)
 {
-    printf("event on phy %u, source %02Xh, amount %u", (unsigned)phy, (unsigned)source, (unsigned)amount);
-    report("", smp_event(&shelf, phy, source, amount));
+    uint32_t told = smp_event(&shelf, phy, source, amount);
+    printf("event on phy %u, source %02Xh, amount %u: %08X", (unsigned)phy, (unsigned)source, (unsigned)amount,
+           (unsigned)told);
+    if (smp_cut(told))
+        printf(": cut");
+    show_end(told);
 }
 
 static void reach(uint32_t group)
@@ -221,6 +225,26 @@ static void controls(void)
         0, 0, 0, 0x2E, 0, 0, 0, 1, 0, 0, 0, 0x07, 0, 0, 0, 0);
 }
 
+static void stuck(void)
+{
+    puts("The disparity count of phy 0 sticks.");
+    /* #104, "Say when an error count has stuck": the answer is "whether the exact sum was above
+     * FFFFFFFFh". Source 02h is the second error count, which no monitor of phy 0 watches. */
+    event(0, 0x02, 4294967294); /* FFFFFFFEh */
+    event(0, 0x02, 1);          /* FFFFFFFFh exactly: not above it */
+    event(0, 0x02, 0);          /* and 0 more */
+    event(0, 0x02, 1);          /* above it: cut, and every number as it was */
+    event(0, 0x02, 0);          /* "its own addition": this one was not */
+    /* 01h is the first error count, at 0 since A set it; monitor 1, at 5 as before, wraps to 4. */
+    event(0, 0x01, 4294967295);
+    event(0, 0x05, 4294967295); /* "no" for sources that have no error count; no monitor watches it */
+    read_phy(A, "reads its errors", 0x11, 0); /* FFFFFFFFh at 12 and at 16: the second was cut */
+    read_phy(A, "reads its monitors", 0x14, 0);
+    control(A, "sets its errors to 0", 4, 0, 0x05);
+    event(0, 0x02, 7); /* exact again */
+    read_phy(A, "reads its errors", 0x11, 0);
+}
+
 static void notices(void)
 {
     puts("The device itself.");
@@ -297,6 +321,7 @@ int main(void)
     strangers();
     cable();
     controls();
+    stuck();
     notices();
     stored();
     bad_frames();

@@ -1,5 +1,5 @@
 -- What has to be known of an interface for all that `Joined` says of it: each call goes as the model does, by the promise of its function;
--- the number of a refusal is read off what is told; and nothing that can be asked for is left out. `ServerFollows` and
+-- the number of a refusal, and that an addition was cut, are read off what is told; and nothing that can be asked for is left out. `ServerFollows` and
 -- `HostFollows` prove it. Assumes nothing.
 use Prim.Native.Nat.{ℕ}
 use mathlib.Core.Path.{_≡_, refl}
@@ -11,7 +11,7 @@ use Rattle.model.specs.declared.Taken.{Taken}
 use Rattle.model.specs.House.{takenNumber}
 use Rattle.model.specs.Reports.{reducedFunctionality, sesNotice}
 use Rattle.model.specs.Runs.{Operation, ReducedFunctionality, Ses, next}
-use Rattle.calls.specs.Operations.{ToReport, ToNotice, said, saidNumber, bufferAfter, Given}
+use Rattle.calls.specs.Operations.{ToReport, ToNotice, said, saidNumber, saysCut, bufferAfter, Given}
 use Rattle.calls.specs.Runs.{Starts}
 use Rattle.calls.specs.Interface.{Interface}
 use Rattle.calls.proofs.ManyCalls.{Go}
@@ -20,6 +20,7 @@ pub record Follows (I : Interface) : Type 0 where
   pub goes : (call : I .Call) → Go (I .coded) (I .seen call)
   pub starts : (x : I .Start) → Starts (I .coded) (I .started x)
   pub reads : (s : Shelf) (o : Operation) → I .refusal (I .coded (said s o)) ≡ saidNumber (said s o)
+  pub reads-cut : (s : Shelf) (o : Operation) → I .cut (I .coded (said s o)) ≡ saysCut (said s o)
   pub reads-start : (taken : Taken) → I .refusal (I .coded (ToReport taken)) ≡ takenNumber taken
   pub asks : (ws : List ℕ) (o : Operation) → (call : I .Call) × (I .seen call .before ≡ ws) × (I .seen call .asked ≡ o)
   pub begins : (ws : List ℕ) (given : Given) → (x : I .Start) × (I .started x .before ≡ ws) × (I .started x .asked ≡ given)

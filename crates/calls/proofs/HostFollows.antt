@@ -2,32 +2,38 @@
 use Prim.Native.Nat.{ℕ, _/_, _≤_}
 use native.Mathlib.Omega.{arith}
 use mathlib.Core.Path.{_≡_, refl, sym, ap, _∙_}
+use mathlib.Core.Logic.{Iff·symm, Iff·trans}
 use mathlib.Core.Bool.{Bool, true, false}
 use mathlib.Core.List.{List, []}
-use borrow.Author.Tests.{ltb-true, ltb-false}
+use borrow.Author.Tests.{ltb-true, ltb-false, ne-eqb}
+use lib.Count.{ones, ones-ones}
 use lib.Dec.{T, ltb}
 use lib.ListN.{length}
+use Rattle.model.specs.declared.EventAnswer.{EventAnswer}
+use Rattle.model.specs.declared.EventAnswer.the-variants.{Counted, NotCounted}
 use Rattle.model.specs.declared.House.{House}
 use Rattle.model.specs.declared.House.the-variants.{SourceGroup}
 use Rattle.model.specs.declared.Shelf.{Shelf}
 use Rattle.model.specs.declared.Taken.{Taken}
 use Rattle.model.specs.declared.Taken.the-variants.{Done, NotDone}
-use Rattle.model.specs.House.{houseNumber, takenNumber, answerNumber, queryNumber}
-use Rattle.model.specs.Reach.{reachQuery}
+use Rattle.model.specs.House.{houseNumber, takenNumber, eventNumber, answerNumber, queryNumber}
+use Rattle.model.specs.Reach.{reachSet, reachNumber, reachQuery}
 use Rattle.model.specs.Reports.{event, linkChange, reducedFunctionality, sesNotice}
 use Rattle.model.specs.Runs.{Operation, Ask, Event, LinkChange, ReducedFunctionality, Ses, QueryReach, next}
 use Rattle.model.specs.Server.{Reply, Refuses, Sends, answer, handle, served, lentAfter}
 use Rattle.model.proofs.Laws.Checks.{house-some}
-use Rattle.model.proofs.Plain.Reach.{reach-answered, reach-refused}
+use Rattle.model.proofs.Laws.Tests.{iff-same, eqb-iff}
+use Rattle.model.proofs.Plain.Reach.{reach-answered, reach-refused, reach-ones}
 use Rattle.words.specs.Words.{shelfOf, laidOver, startedWords}
 use Rattle.words.proofs.Laying.{laid-same}
-use Rattle.host.specs.Told.{refusedTold, takenTold, answerTold, reachTold}
-use Rattle.host.proofs.Coding.{refused-read, response-read, reach-read}
-use Rattle.calls.specs.Operations.{said, saidNumber, bufferAfter, Given, startOf}
+use Rattle.host.specs.Told.{refusedTold, takenTold, eventTold, answerTold, reachTold}
+use Rattle.host.proofs.Coding.{refused-read, event-read, response-read, reach-read}
+use Rattle.calls.specs.Operations.{said, saidNumber, eventSaysCut, saysCut, bufferAfter, Given, startOf}
 use Rattle.calls.specs.Runs.{Starts}
-use Rattle.calls.specs.Host.{hostCoded, bit31, smpRefused, smpRefusal, HostStart, hostSeen, hostStarted, hostInterface}
+use Rattle.calls.specs.Host.{hostCoded, bit31, smpRefused, smpRefusal, smpCut, HostStart, hostSeen, hostStarted, hostInterface}
 use Rattle.calls.specs.Host.{HostCall, smp-serve, smp-event, smp-link-change, smp-notice, smp-reach}
 use Rattle.calls.proofs.ManyCalls.{Go}
+use Rattle.calls.proofs.OneCall.{says-cut-iff}
 use Rattle.calls.proofs.Follows.{Follows, lending, notice-next, notice-said, notice-buffer}
 
 -- ---- each promise
@@ -75,6 +81,11 @@ pub taken-reads : (taken : Taken) → Reads (takenTold taken) (takenNumber taken
 taken-reads Done = none-reads 0 refl
 taken-reads (NotDone house) = refused-reads house
 
+event-reads : (answer : EventAnswer) → Reads (eventTold answer) (eventNumber answer)
+event-reads (Counted true) = none-reads 1 refl
+event-reads (Counted false) = none-reads 0 refl
+event-reads (NotCounted house) = refused-reads house
+
 answer-reads : (s : Shelf) (g : ℕ) (frame : List ℕ) (room : ℕ) (reply : Reply) → handle s g frame room .reply ≡ reply
     → Reads (answerTold (answer reply)) (answerNumber (answer reply))
 answer-reads s g frame room (Refuses house) e = refused-reads house
@@ -90,11 +101,53 @@ query-reads s g false e =
 pub said-reads : (s : Shelf) (o : Operation) → Reads (hostCoded (said s o)) (saidNumber (said s o))
 unfolding said served
 said-reads s (Ask g frame out) = answer-reads s g frame (length out) (handle s g frame (length out) .reply) refl
-said-reads s (Event p source amount) = taken-reads (event s p source amount .taken)
+said-reads s (Event p source amount) = event-reads (event s p source amount .answer)
 said-reads s (LinkChange p) = taken-reads (linkChange s p .taken)
 said-reads s ReducedFunctionality = none-reads 0 refl
 said-reads s Ses = none-reads 0 refl
 said-reads s (QueryReach g) = query-reads s g (ltb 31 g) refl
+
+-- ---- whether an addition was cut (#104)
+
+-- a refusal, which has bit 31, does not tell it,
+refused-tells : (house : House) → smpCut (refusedTold house) ≡ false
+refused-tells house = ne-eqb (refusedTold house) 1 (λ e. omega (arith, refused-read house .0))
+
+-- an event report tells it by 1,
+event-tells : (answer : EventAnswer) → smpCut (eventTold answer) ≡ eventSaysCut answer
+event-tells answer =
+    iff-same (smpCut (eventTold answer)) (eventSaysCut answer)
+    (Iff·trans (eqb-iff (eventTold answer) 1) (Iff·trans (event-read answer) (Iff·symm (says-cut-iff answer))))
+
+-- and nothing else is told by 1: a response has 4 bytes or more, and a set of one phy has its number above it
+taken-tells : (taken : Taken) → smpCut (takenTold taken) ≡ false
+taken-tells Done = refl
+taken-tells (NotDone house) = refused-tells house
+
+answer-tells : (s : Shelf) (g : ℕ) (frame : List ℕ) (room : ℕ) (reply : Reply) → handle s g frame room .reply ≡ reply
+    → smpCut (answerTold (answer reply)) ≡ false
+answer-tells s g frame room (Refuses house) e = refused-tells house
+answer-tells s g frame room (Sends bytes) e = ne-eqb (length bytes) 1 (λ one. omega (arith, response-read s g frame room bytes e .1))
+
+query-tells : (s : Shelf) (g : ℕ) (above : Bool) → ltb 31 g ≡ above → smpCut (reachTold (reachQuery s g)) ≡ false
+query-tells s g true e = rw (reach-refused s g (ltb-true 31 g e)) (refused-tells SourceGroup)
+query-tells s g false e =
+    let group : g ≤ 31 = ltb-false 31 g e in
+    let (_, set, number) = reach-read s g group in
+    ne-eqb (reachTold (reachQuery s g)) 1
+    (λ one.
+    let alone : reachSet s g ≡ 1 = omega (arith, set) in
+    let one-phy : reachNumber s g ≡ 1 = reach-ones s g ∙ ap ones alone ∙ ones-ones 1 in
+    omega (arith, number))
+
+said-tells : (s : Shelf) (o : Operation) → smpCut (hostCoded (said s o)) ≡ saysCut (said s o)
+unfolding said served
+said-tells s (Ask g frame out) = answer-tells s g frame (length out) (handle s g frame (length out) .reply) refl
+said-tells s (Event p source amount) = event-tells (event s p source amount .answer)
+said-tells s (LinkChange p) = taken-tells (linkChange s p .taken)
+said-tells s ReducedFunctionality = refl
+said-tells s Ses = refl
+said-tells s (QueryReach g) = query-tells s g (ltb 31 g) refl
 
 -- ---- whatever is asked for: a call that asks for it, with the outcome that the model gives
 
@@ -118,7 +171,7 @@ host-asks ws (Event p source amount) = (
     lifetimes = ([], tt);
     arguments = (lending ws, (p, (source, (amount, tt))));
     outcome = record {
-      result = takenTold (event (shelfOf ws) p source amount .taken);
+      result = eventTold (event (shelfOf ws) p source amount .answer);
       lent = (laidOver ws (event (shelfOf ws) p source amount .shelf), (tt, (tt, (tt, tt))));
       promised = (refl, refl);
     };
@@ -189,6 +242,7 @@ host-follows =
       goes = host-goes;
       starts = host-starts;
       reads = λ s o. said-reads s o .number;
+      reads-cut = said-tells;
       reads-start = λ taken. taken-reads taken .number;
       asks = host-asks;
       begins = host-begins;

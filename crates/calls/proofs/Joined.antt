@@ -5,20 +5,25 @@
 -- Nothing is asked of them but what the types say, since the numbers here have no width: a shelf's memory is `shelfWords` words of 32 bits
 -- (`Memory`; where their number is enough, `length .. ≡ shelfWords`), a frame is bytes and an amount has 32 bits (`AllFit`, `BytesFit`), a
 -- start is given 32 rows of 32 bits and 8 bytes (`StartFits`). `Widths` has these from the toolchain's own types. Assumes nothing.
-use Prim.Native.Nat.{ℕ, _≤_, _<_}
+use Prim.Native.Nat.{ℕ, _+_, _≤_, _<_}
 use mathlib.Core.Path.{_≡_, refl, ap₂, subst}
 use mathlib.Core.Logic.{_↔_}
 use mathlib.Core.List.{List, [], _∷_, map}
+use lib.Dec.{T}
 use lib.ListN.{length}
 use Rattle.model.specs.Bytes.{byte}
 use Rattle.model.specs.CrossedOut.{remains}
 use Rattle.model.specs.Fits.{BytesFit, OperationFits, Sound, AllFit, StartFits}
 use Rattle.model.specs.History.{history}
+use Rattle.model.specs.Reply.{errorAt}
 use Rattle.model.specs.Request.{functionOf}
-use Rattle.model.specs.Runs.{Operation, Ask, after, answers}
+use Rattle.model.specs.Runs.{Operation, Ask, Event, after, answers}
 use Rattle.model.specs.Server.{leastBuffer}
+use Rattle.model.specs.Shelf.{phyAt}
+use Rattle.model.specs.Tally.{tally}
 use Rattle.model.proofs.Demands.Configured.{Configured}
 use Rattle.model.proofs.Demands.Controlled.{Controlled}
+use Rattle.model.proofs.Demands.ErrorCounts.{CutBy, Stands}
 use Rattle.model.proofs.Demands.EventList.{listFor}
 use Rattle.model.proofs.Demands.History.{IsHistory}
 use Rattle.model.proofs.Demands.Stored.{StoredTogether}
@@ -26,6 +31,7 @@ use Rattle.model.proofs.Demands.Strangers.{listCode, NoRequest}
 use Rattle.model.proofs.Demands.Writes.{ControlPasses, ConfigurePasses}
 use Rattle.model.proofs.Laws.Lowest.{Gives}
 use Rattle.model.proofs.Laws.Places.{All}
+use Rattle.model.proofs.Plain.Reports.{Reportable}
 use Rattle.words.specs.Memory.{Memory}
 use Rattle.words.specs.Sizes.{shelfWords}
 use Rattle.words.specs.Words.{shelfOf}
@@ -35,10 +41,11 @@ use Rattle.calls.specs.Left.{Fails, Answers, WordsFullOrNone}
 use Rattle.calls.specs.Interface.{Interface}
 use Rattle.calls.specs.Linked.{Linked, Server, Host, interface}
 use Rattle.calls.proofs.OneCall.{goes-same, lowest-told, refusal-stays, cut-read, wrong-read, no-request-alike, fails, list-refuses}
+use Rattle.calls.proofs.OneCall.{cut-told-exactly, cut-told-to-events}
 use Rattle.calls.proofs.OneCall.{list-answers, stores-together, control-writes, configure-writes}
 use Rattle.calls.proofs.ManyCalls.{Go, ends, got-answers}
 use Rattle.calls.proofs.Starting.{start-lowest, start-stays, same-told, same-words}
-use Rattle.calls.proofs.Starting.{begun-goes, begun-shelf, begun-sound, begun-history, begun-demand-3}
+use Rattle.calls.proofs.Starting.{begun-goes, begun-shelf, begun-sound, begun-tallied, begun-history, begun-demand-3}
 use Rattle.calls.proofs.Follows.{Follows}
 use Rattle.calls.proofs.ServerFollows.{server-follows}
 use Rattle.calls.proofs.HostFollows.{host-follows}
@@ -48,7 +55,7 @@ follows Server = server-follows
 follows Host = host-follows
 
 module _ (linked : Linked) where
-  open Interface (interface linked) using (coded, refusal, Call, seen, Start, started)
+  open Interface (interface linked) using (coded, refusal, cut, Call, seen, Start, started)
 
   -- ---- One call
 
@@ -110,6 +117,17 @@ module _ (linked : Linked) where
   call-learns-nothing one other long-c long-d g frame out no-request asks-c asks-d =
       no-request-alike coded (seen one) (seen other) (call-goes one long-c) (call-goes other long-d) g frame out no-request asks-c asks-d
       long-c
+
+  -- #104, "Say when an error count has stuck": that its own addition was cut is told to an event report exactly if none of H7, H8 and H9
+  -- applies, its source is 01h to 04h, and the count before plus the amount, as exact numbers, is above FFFFFFFFh; and to nothing else.
+  pub call-addition-cut : (call : Call) → let c = seen call in let s = shelfOf (c .before) in length (c .before) ≡ shelfWords
+      → (p source amount : ℕ) → c .asked ≡ Event p source amount
+      → T (cut (c .told)) ↔ (Reportable s p source amount × CutBy s p source amount)
+  call-addition-cut call long = cut-told-exactly coded (seen call) (call-goes call long) cut (follows linked .reads-cut)
+
+  pub call-cut-is-event : (call : Call) → let c = seen call in length (c .before) ≡ shelfWords → T (cut (c .told))
+      → (p : ℕ) × (source : ℕ) × (amount : ℕ) × (c .asked ≡ Event p source amount)
+  call-cut-is-event call long = cut-told-to-events coded (seen call) (call-goes call long) cut (follows linked .reads-cut)
 
   -- a request of group g that draws no house refusal
   module _ (call : Call) (g : ℕ) (frame out : List ℕ) (asks : seen call .asked ≡ Ask g frame out)
@@ -194,6 +212,14 @@ module _ (linked : Linked) where
         → Sound (shelfOf (lastWords (started x .after) run))
     started-sound =
         begun-sound coded refusal (follows linked .reads-start) (started x) (start-goes x) taken fit (map seen calls) (all-go calls)
+
+    -- each of its error counts is what those know who hear the reports and the 05h with their answers (#104): the exact sum of the accepted
+    -- amounts since the last 05h or the start until one was told as cut, and FFFFFFFFh from then on;
+    pub started-tallied : let run = map seen calls in RunFrom (started x .after) run → AllFit (operations run) → (p k : ℕ) → k < 4
+        → Stands (tally p (k + 1) (startOf (started x .asked) .shelf) (operations run))
+        (errorAt (phyAt (shelfOf (lastWords (started x .after) run)) p) k)
+    started-tallied =
+        begun-tallied coded refusal (follows linked .reads-start) (started x) (start-goes x) taken fit (map seen calls) (all-go calls)
 
     -- and its list of stored peak events is the history of the run.
     pub started-history : let run = map seen calls in RunFrom (started x .after) run → AllFit (operations run)

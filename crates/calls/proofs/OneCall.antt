@@ -5,18 +5,24 @@
 use Prim.Native.Nat.{ℕ, _≤_, _<_}
 use native.Mathlib.Omega.{arith}
 use mathlib.Core.Path.{_≡_, refl, sym, ap, ap₂, subst, subst⁻¹, _∙_}
-use mathlib.Core.Logic.{_↔_}
+use mathlib.Core.Logic.{_↔_, Iff·trans}
+use mathlib.Core.Bool.{Bool, true, false}
 use mathlib.Core.List.{List, []}
+use lib.Dec.{T}
 use lib.ListN.{length}
+use Rattle.model.specs.declared.EventAnswer.{EventAnswer}
+use Rattle.model.specs.declared.EventAnswer.the-variants.{Counted, NotCounted}
 use Rattle.model.specs.declared.Shelf.{Shelf}
 use Rattle.model.specs.Bytes.{byte}
 use Rattle.model.specs.Fits.{BytesFit, OperationFits, Placed}
 use Rattle.model.specs.House.{answerNumber}
+use Rattle.model.specs.Reports.{event}
 use Rattle.model.specs.Request.{functionOf}
 use Rattle.model.specs.Runs.{Operation, Ask, Event, LinkChange, ReducedFunctionality, Ses, QueryReach, next}
 use Rattle.model.specs.Server.{leastBuffer, served, lentAfter}
 use Rattle.model.proofs.Demands.Configured.{Configured}
 use Rattle.model.proofs.Demands.Controlled.{Controlled}
+use Rattle.model.proofs.Demands.ErrorCounts.{CutBy, event-cut}
 use Rattle.model.proofs.Demands.EventList.{listFor, ListGiven, list-given}
 use Rattle.model.proofs.Demands.Invariant.{fits-placed}
 use Rattle.model.proofs.Demands.Refusals.{request-gives, event-gives, link-change-gives, query-gives}
@@ -26,13 +32,14 @@ use Rattle.model.proofs.Demands.Stored.{StoredTogether, placed-next-stored}
 use Rattle.model.proofs.Demands.Strangers.{listCode, list-refused, NoRequest, no-request-learns-nothing}
 use Rattle.model.proofs.Demands.Writes.{ControlPasses, ConfigurePasses, FullOrNone, placed-control-write, placed-configure-write}
 use Rattle.model.proofs.Laws.Lowest.{Gives, no-more, row-gives}
+use Rattle.model.proofs.Plain.Reports.{Reportable}
 use Rattle.words.specs.Memory.{Memory}
 use Rattle.words.specs.Sizes.{shelfWords}
 use Rattle.words.specs.Words.{shelfOf, laidOver}
 use Rattle.words.proofs.Laying.{laid-same}
 use Rattle.words.proofs.Lens.{stands-fit}
 use Rattle.words.proofs.Steps.{next-stands, next-memory}
-use Rattle.calls.specs.Operations.{Said, ToRequest, said, saidNumber, lentBefore, bufferAfter, refusals}
+use Rattle.calls.specs.Operations.{Said, ToRequest, said, saidNumber, eventSaysCut, saysCut, lentBefore, bufferAfter, refusals}
 use Rattle.calls.specs.Runs.{Asks, Goes}
 use Rattle.calls.specs.Left.{Fails, Answers, WordsFullOrNone}
 
@@ -55,6 +62,22 @@ said-stays s (LinkChange p) refused = (link-change-refusal s p refused, refl)
 said-stays s ReducedFunctionality refused = absurd (omega arith)
 said-stays s Ses refused = absurd (omega arith)
 said-stays s (QueryReach g) refused = (refl, refl)
+
+-- that an addition was cut is told to an event report (#104), and to nothing else
+pub says-cut-iff : (answer : EventAnswer) → T (eventSaysCut answer) ↔ (answer ≡ Counted true)
+says-cut-iff (Counted true) = (λ t. refl, λ e. tt)
+says-cut-iff (Counted false) = (λ t. absurd t, λ e. subst⁻¹ (λ answer. T (eventSaysCut answer)) e tt)
+says-cut-iff (NotCounted house) = (λ t. absurd t, λ e. subst⁻¹ (λ answer. T (eventSaysCut answer)) e tt)
+
+told-to-events : (s : Shelf) (o : Operation) → T (saysCut (said s o))
+    → (p : ℕ) × (source : ℕ) × (amount : ℕ) × (o ≡ Event p source amount)
+unfolding said
+told-to-events s (Ask g frame out) told = absurd told
+told-to-events s (Event p source amount) told = (p, source, amount, refl)
+told-to-events s (LinkChange p) told = absurd told
+told-to-events s ReducedFunctionality told = absurd told
+told-to-events s Ses told = absurd told
+told-to-events s (QueryReach g) told = absurd told
 
 -- ---- On the words
 
@@ -101,6 +124,23 @@ module _ {A : Type 0} (coded : Said → A) (c : Asks A) (goes : Goes coded (shel
   stores-together memory fit =
       subst⁻¹ (StoredTogether (shelfOf (c .before))) (stand memory fit)
       (placed-next-stored (shelfOf (c .before)) (placed memory) (c .asked))
+
+  -- where it can be read off what is told that an event report's own addition was cut (#104)
+  module _ (cut : A → Bool) (reads : (s : Shelf) (o : Operation) → cut (coded (said s o)) ≡ saysCut (said s o)) where
+    pub cut-told-exactly : (p source amount : ℕ) → c .asked ≡ Event p source amount
+        → let s = shelfOf (c .before) in
+        T (cut (c .told)) ↔ (Reportable s p source amount × CutBy s p source amount)
+    unfolding said
+    cut-told-exactly p source amount asks =
+        let s : Shelf = shelfOf (c .before) in
+        let is : cut (c .told) ≡ eventSaysCut (event s p source amount .answer) =
+        ap cut (goes .told) ∙ reads s (c .asked) ∙ ap (λ o. saysCut (said s o)) asks in
+        rw is (Iff·trans (says-cut-iff (event s p source amount .answer)) (event-cut s p source amount))
+
+    -- and of no other call
+    pub cut-told-to-events : T (cut (c .told)) → (p : ℕ) × (source : ℕ) × (amount : ℕ) × (c .asked ≡ Event p source amount)
+    cut-told-to-events told =
+        told-to-events (shelfOf (c .before)) (c .asked) (subst T (ap cut (goes .told) ∙ reads (shelfOf (c .before)) (c .asked)) told)
 
   -- where the number of a refusal can be read off what is told
   module _ (refusal : A → ℕ) (reads : (s : Shelf) (o : Operation) → refusal (coded (said s o)) ≡ saidNumber (said s o)) where

@@ -10,7 +10,7 @@ use Rattle.model.specs.Runs.{Operation, Ask, Event, LinkChange, ReducedFunction
 use Rattle.model.specs.Server.{served, lentAfter}
 use Rattle.words.specs.Words.{shelfOf, laidOver, startedWords}
 use Rattle.words.proofs.Laying.{laid-same}
-use Rattle.calls.specs.Operations.{ToRequest, ToReport, ToQuery, said, bufferAfter, Given, startOf}
+use Rattle.calls.specs.Operations.{ToRequest, ToReport, ToEvent, ToQuery, said, bufferAfter, Given, startOf}
 use Rattle.calls.specs.Runs.{Starts}
 use Rattle.calls.specs.Server.{ServerCall, serve-call, event-call, link-change-call, notice-call, reach-query-call}
 use Rattle.calls.specs.Server.{ServerStart, serverSeen, serverStarted, serverInterface}
@@ -24,7 +24,7 @@ unfolding serverSeen next served said bufferAfter
 server-goes (serve-call c) long =
     record { words = c .outcome .promised .1 .0; told = ap ToRequest (c .outcome .promised .0); buffer = c .outcome .promised .1 .1 }
 server-goes (event-call c) long =
-    record { words = c .outcome .promised .1; told = ap ToReport (c .outcome .promised .0); buffer = refl }
+    record { words = c .outcome .promised .1; told = ap ToEvent (c .outcome .promised .0); buffer = refl }
 server-goes (link-change-call c) long =
     record { words = c .outcome .promised .1; told = ap ToReport (c .outcome .promised .0); buffer = refl }
 server-goes (notice-call c) long =
@@ -63,7 +63,7 @@ server-asks ws (Event p source amount) = (
     lifetimes = ([], tt);
     arguments = (lending ws, (p, (source, (amount, tt))));
     outcome = record {
-      result = event (shelfOf ws) p source amount .taken;
+      result = event (shelfOf ws) p source amount .answer;
       lent = (laidOver ws (event (shelfOf ws) p source amount .shelf), (tt, (tt, (tt, tt))));
       promised = (refl, refl);
     };
@@ -134,6 +134,7 @@ server-follows =
       goes = server-goes;
       starts = server-starts;
       reads = λ s o. refl;
+      reads-cut = λ s o. refl;
       reads-start = λ taken. refl;
       asks = server-asks;
       begins = server-begins;

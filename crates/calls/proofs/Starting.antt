@@ -1,6 +1,7 @@
 -- A start that goes as the model does: its house refusal is the lowest that applies, and leaves the words; and a run that it begins keeps
--- the invariant, has its history for the list of stored peak events, and meets demand 3. Assumes nothing.
-use Prim.Native.Nat.{ℕ, _≤_}
+-- the invariant, has its history for the list of stored peak events, leaves each error count as it was tallied (#104), and meets demand 3.
+-- Assumes nothing.
+use Prim.Native.Nat.{ℕ, _+_, _≤_, _<_}
 use native.Mathlib.Omega.{arith}
 use mathlib.Core.Path.{_≡_, refl, sym, ap, subst, subst⁻¹, _∙_}
 use mathlib.Core.List.{List, map}
@@ -11,8 +12,11 @@ use Rattle.model.specs.CrossedOut.{remains}
 use Rattle.model.specs.Fits.{Sound, AllFit, StartFits}
 use Rattle.model.specs.History.{history}
 use Rattle.model.specs.House.{takenNumber}
+use Rattle.model.specs.Reply.{errorAt}
 use Rattle.model.specs.Runs.{after, answers}
-use Rattle.model.specs.Shelf.{startTaken, start}
+use Rattle.model.specs.Shelf.{phyAt, startTaken, start}
+use Rattle.model.specs.Tally.{tally}
+use Rattle.model.proofs.Demands.ErrorCounts.{Stands, error-count-tallied}
 use Rattle.model.proofs.Demands.History.{IsHistory, list-is-history}
 use Rattle.model.proofs.Demands.Invariant.{start-sound, after-sound}
 use Rattle.model.proofs.Demands.Isolation.{demand-3}
@@ -89,6 +93,12 @@ module _ {A : Type 0} (coded : Said → A) (refusal : A → ℕ)
           begun-history =
               subst⁻¹ (λ s. IsHistory (s .store) (history (startOf (x .asked) .shelf) (operations run))) begun-shelf
               (list-is-history (x .asked .number) (x .asked .groups) (x .asked .table) (x .asked .identifier) (operations run))
+
+          pub begun-tallied : (p k : ℕ) → k < 4
+              → Stands (tally p (k + 1) (startOf (x .asked) .shelf) (operations run)) (errorAt (phyAt (shelfOf (lastWords (x .after) run)) p) k)
+          begun-tallied p k below =
+              subst⁻¹ (λ s. Stands (tally p (k + 1) (startOf (x .asked) .shelf) (operations run)) (errorAt (phyAt s p) k)) begun-shelf
+              (error-count-tallied (x .asked .number) (x .asked .groups) (x .asked .table) (x .asked .identifier) (operations run) p k below)
 
           begun-answers : (g : ℕ) → got g run ≡ map (codedTold coded) (answers g (startOf (x .asked) .shelf) (operations run))
           begun-answers g = got-answers coded g _ run begun-goes

@@ -4,14 +4,14 @@ use mathlib.Core.Bool.{Bool, cond}
 use mathlib.Core.List.{[]}
 use lib.Dec.{eqb}
 use Rattle.model.specs.Runs.{Ask, Event, LinkChange, ReducedFunctionality, Ses, QueryReach}
-use Rattle.host.specs.Told.{takenTold, answerTold, reachTold}
+use Rattle.host.specs.Told.{takenTold, eventTold, answerTold, reachTold}
 use Rattle.host.proofs.smp_start
 use Rattle.host.proofs.smp_serve
 use Rattle.host.proofs.smp_event
 use Rattle.host.proofs.smp_link_change
 use Rattle.host.proofs.smp_notice
 use Rattle.host.proofs.smp_reach
-use Rattle.calls.specs.Operations.{Said, ToRequest, ToReport, ToNotice, ToQuery, Given}
+use Rattle.calls.specs.Operations.{Said, ToRequest, ToReport, ToEvent, ToNotice, ToQuery, Given}
 use Rattle.calls.specs.Runs.{Seen, Asks}
 use Rattle.calls.specs.Interface.{CallOf, Interface}
 
@@ -19,6 +19,7 @@ use Rattle.calls.specs.Interface.{CallOf, Interface}
 abbrev pub hostCoded : Said → ℕ
 hostCoded (ToRequest answer) = answerTold answer
 hostCoded (ToReport taken) = takenTold taken
+hostCoded (ToEvent answer) = eventTold answer
 hostCoded ToNotice = 0
 hostCoded (ToQuery reach) = reachTold reach
 
@@ -31,6 +32,10 @@ smpRefused told = eqb (bit31 told) 1
 
 abbrev pub smpRefusal : ℕ → ℕ
 smpRefusal told = cond (smpRefused told) (told % 0x10) 0
+
+-- the header's `smp_cut`, #104: 1, which no other function tells
+abbrev pub smpCut : ℕ → Bool
+smpCut told = eqb told 1
 
 -- the functions that take a shelf, and the one that begins it
 pub data HostCall : Type 0 where
@@ -108,6 +113,7 @@ hostInterface =
       Told = ℕ;
       coded = hostCoded;
       refusal = smpRefusal;
+      cut = smpCut;
       Call = HostCall;
       seen = hostSeen;
       Start = HostStart;

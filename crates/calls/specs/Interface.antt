@@ -2,6 +2,7 @@
 -- handed in, and what came back. Of what came back nothing is known but that the promise of the function that was called allows it
 -- (`Allowed` of the model). That the code keeps each promise is proved in its crate.
 use Prim.Native.Nat.{ℕ}
+use mathlib.Core.Bool.{Bool}
 use mathlib.Core.List.{List}
 use contract.Lifetimes.{Lfts}
 use borrow.Fn.Kinds.{PK, RK, Dens, Out}
@@ -16,10 +17,12 @@ pub record CallOf {n : ℕ} (ps : List (PK n)) (r : RK n) (Post : Out n ps r) : 
   pub outcome : Allowed ps r Post lifetimes arguments
 
 pub record Interface : Type 1 where
-  -- what a caller is told, how what the model says is coded as that, and the number of a house refusal that is read off it (0: none)
+  -- what a caller is told, how what the model says is coded as that; and what is read off it: the number of a house refusal (0: none), and
+  -- whether an event report's own addition was cut (#104)
   pub Told : Type 0
   pub coded : Said → Told
   pub refusal : Told → ℕ
+  pub cut : Told → Bool
   -- the calls that take the words of a shelf
   pub Call : Type 0
   pub seen : Call → Asks Told

@@ -5,11 +5,13 @@ use mathlib.Core.Bool.{Bool, false}
 use mathlib.Core.List.{List, [], _∷_}
 use lib.Dec.{eqb}
 use Rattle.model.specs.declared.Answer.{Answer}
+use Rattle.model.specs.declared.EventAnswer.{EventAnswer}
+use Rattle.model.specs.declared.EventAnswer.the-variants.{Counted, NotCounted}
 use Rattle.model.specs.declared.Outcome.{Outcome}
 use Rattle.model.specs.declared.Reach.{Reach}
 use Rattle.model.specs.declared.Shelf.{Shelf}
 use Rattle.model.specs.declared.Taken.{Taken}
-use Rattle.model.specs.House.{takenNumber, answerNumber, queryNumber}
+use Rattle.model.specs.House.{takenNumber, eventNumber, answerNumber, queryNumber}
 use Rattle.model.specs.Reach.{reachQuery}
 use Rattle.model.specs.Reports.{event, linkChange}
 use Rattle.model.specs.Runs.{Operation, Ask, Event, LinkChange, ReducedFunctionality, Ses, QueryReach}
@@ -17,17 +19,18 @@ use Rattle.model.specs.Server.{served, lentAfter}
 use Rattle.model.specs.Shelf.{start}
 use Rattle.model.proofs.Demands.Refusals.{startRefusals, requestRefusals, queryRefusals, eventRefusals, linkChangeRefusals}
 
--- What a caller is told: the answer to a request, whether a report or a start is taken, the answer to a reach query. A device notice is
--- told nothing.
+-- What a caller is told: the answer to a request, whether a start or a link change is taken, the answer to an event report (#104) and to a
+-- reach query. A device notice is told nothing.
 pub data Said : Type 0 where
   ToRequest : Answer → Said
   ToReport : Taken → Said
+  ToEvent : EventAnswer → Said
   ToNotice : Said
   ToQuery : Reach → Said
 
 unfoldable pub said : Shelf → Operation → Said
 said s (Ask g frame out) = ToRequest (served s g frame out .answer)
-said s (Event p source amount) = ToReport (event s p source amount .taken)
+said s (Event p source amount) = ToEvent (event s p source amount .answer)
 said s (LinkChange p) = ToReport (linkChange s p .taken)
 said s ReducedFunctionality = ToNotice
 said s Ses = ToNotice
@@ -65,6 +68,7 @@ gets g (QueryReach h) = eqb h g
 abbrev pub saidNumber : Said → ℕ
 saidNumber (ToRequest answer) = answerNumber answer
 saidNumber (ToReport taken) = takenNumber taken
+saidNumber (ToEvent answer) = eventNumber answer
 saidNumber ToNotice = 0
 saidNumber (ToQuery reach) = queryNumber reach
 
@@ -75,6 +79,19 @@ refusals s (LinkChange p) = linkChangeRefusals s p
 refusals s ReducedFunctionality = []
 refusals s Ses = []
 refusals s (QueryReach g) = queryRefusals g
+
+-- ---- #104: whether an event report is told that its own addition was cut; nothing else is ever told so.
+
+abbrev pub eventSaysCut : EventAnswer → Bool
+eventSaysCut (Counted cut) = cut
+eventSaysCut (NotCounted house) = false
+
+abbrev pub saysCut : Said → Bool
+saysCut (ToRequest answer) = false
+saysCut (ToReport taken) = false
+saysCut (ToEvent answer) = eventSaysCut answer
+saysCut ToNotice = false
+saysCut (ToQuery reach) = false
 
 -- ---- A start: what it is given, by content, and what the model makes of it
 

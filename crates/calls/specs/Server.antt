@@ -8,7 +8,7 @@ use Rattle.server.proofs.event
 use Rattle.server.proofs.link_change
 use Rattle.server.proofs.notice
 use Rattle.server.proofs.reach_query
-use Rattle.calls.specs.Operations.{Said, ToRequest, ToReport, ToNotice, ToQuery, saidNumber, Given}
+use Rattle.calls.specs.Operations.{Said, ToRequest, ToReport, ToEvent, ToNotice, ToQuery, saidNumber, saysCut, Given}
 use Rattle.calls.specs.Runs.{Seen, Asks}
 use Rattle.calls.specs.Interface.{CallOf, Interface}
 
@@ -37,7 +37,7 @@ serverSeen (event-call c) =
       before = c .arguments .0 .now;
       asked = Event (c .arguments .1 .0) (c .arguments .1 .1 .0) (c .arguments .1 .1 .1 .0);
       after = c .outcome .lent .0;
-      told = ToReport (c .outcome .result);
+      told = ToEvent (c .outcome .result);
       buffer = [];
     }
 serverSeen (link-change-call c) =
@@ -88,6 +88,7 @@ serverInterface =
       Told = Said;
       coded = λ says. says;
       refusal = saidNumber;
+      cut = saysCut;
       Call = ServerCall;
       seen = serverSeen;
       Start = ServerStart;
