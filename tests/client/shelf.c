@@ -73,6 +73,14 @@ static int start(struct smp_shelf *shelf)
     return outcome(smp_start(shelf, 4, groups, table, identifier));
 }
 
+static int event(struct smp_shelf *shelf, uint32_t phy, uint32_t source, uint32_t amount)
+{
+    uint32_t told = smp_event(shelf, phy, source, amount);
+    if (smp_cut(told))
+        puts("cut");
+    return outcome(told);
+}
+
 static int reach(const struct smp_shelf *shelf, uint32_t source)
 {
     uint32_t told = smp_reach(shelf, source);
@@ -118,7 +126,7 @@ static int operation(struct smp_shelf *shelf, const char *name, int count, char 
     if (!numbers_of(count, texts, number, 3))
         return usage_error();
     if (is(name, "event") && count == 3)
-        return outcome(smp_event(shelf, number[0], number[1], number[2]));
+        return event(shelf, number[0], number[1], number[2]);
     if (is(name, "link") && count == 1)
         return outcome(smp_link_change(shelf, number[0]));
     if (is(name, "reach") && count == 1)

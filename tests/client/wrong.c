@@ -374,11 +374,11 @@ static uint32_t stores_after_the_clear(struct asked *a)
     return told;
 }
 
-/* Reports: the true one, and then what the fault makes of the phy and of the store. */
+/* Reports: the true one, and then what the fault makes of the phy, of the store and of what is told. */
 struct reported {
     struct smp_phy before;
     struct smp_phy *phy;
-    uint32_t source, amount;
+    uint32_t source, amount, told;
     struct smp_shelf *shelf;
     const struct smp_shelf *shelf_before;
 };
@@ -530,6 +530,23 @@ static const struct {
     {"stores_after_the_clear", stores_after_the_clear},
 };
 
+/* An error count that has stuck. */
+static uint64_t exact_sum(const struct reported *r) { return (uint64_t)r->before.errors[(r->source - 1) % 4] + r->amount; }
+static bool has_error_count(const struct reported *r) { return r->source >= 1 && r->source <= 4; }
+static bool was_full(const struct reported *r) { return has_error_count(r) && r->before.errors[r->source - 1] == UINT32_MAX; }
+
+static void never_tells_a_cut(struct reported *r) { r->told = 0; }
+static void cut_told_a_report_later(struct reported *r) { r->told = was_full(r); }
+static void cut_at_the_most(struct reported *r) { r->told |= has_error_count(r) && r->amount > 0 && exact_sum(r) == UINT32_MAX; }
+static void cut_where_nothing_is_added(struct reported *r) { r->told |= was_full(r); }
+static void cut_of_other_sources(struct reported *r) { r->told |= exact_sum(r) > UINT32_MAX; }
+
+static void cut_where_a_monitor_wraps(struct reported *r)
+{
+    for (int i = 0; !is_peak(r->source) && i < 4; i++)
+        r->told |= r->phy->monitors[i].source == r->source && r->phy->monitors[i].value < r->before.monitors[i].value;
+}
+
 static const struct {
     const char *name;
     void (*report)(struct reported *);
@@ -547,6 +564,12 @@ static const struct {
     {"stores_falling", stores_falling},
     {"stores_one_of_several", stores_one_of_several},
     {"stores_uncrossed", stores_uncrossed},
+    {"never_tells_a_cut", never_tells_a_cut},
+    {"cut_told_a_report_later", cut_told_a_report_later},
+    {"cut_at_the_most", cut_at_the_most},
+    {"cut_where_nothing_is_added", cut_where_nothing_is_added},
+    {"cut_of_other_sources", cut_of_other_sources},
+    {"cut_where_a_monitor_wraps", cut_where_a_monitor_wraps},
 };
 
 static const char *fault_name(void)
@@ -599,8 +622,8 @@ uint32_t __wrap_smp_event(struct smp_shelf *shelf, uint32_t phy, uint32_t source
     struct reported reported = {.phy = &shelf->phys[phy % 24], .source = source, .amount = amount,
                                 .shelf = shelf, .shelf_before = &before};
     reported.before = *reported.phy;
-    uint32_t told = __real_smp_event(shelf, phy, source, amount);
-    if (place >= number && !smp_refused(told))
+    reported.told = __real_smp_event(shelf, phy, source, amount);
+    if (place >= number && !smp_refused(reported.told))
         reports[place - number].report(&reported);
-    return told;
+    return reported.told;
 }
