@@ -8,6 +8,7 @@ BEGIN {
     here["17 H8 H8 H8 00 00 00 00"] = "not supported"
     here["00 H8 H8 H8 00 00 00 00"] = "no event"
     largest[" done done done done done"] = "FFFFFFFFh"
+    largest[" done done done done done, cut"] = "FFFFFFFFh" # it adds to an error count, which what came before had begun
     largest[" done done done H9 H9"] = "FFFFh"
     largest[" done H9 H9 H9 H9"] = "FFh"
     largest[" H8 H8 H8 H8 H8"] = "-"
@@ -20,6 +21,7 @@ function told(    found, decided, i) {
     for (i = 1; i <= ranges; i++)
         if (low[i] <= number(code) && number(code) <= high[i])
             decided = sprintf("%02Xh to %02Xh%s", low[i], high[i], kind[i] == found ? "" : ", of " kind[i])
+    if (large ~ /, cut$/) found = found ", error count"
     print code "|" found "|" decided "|" (large in largest ? largest[large] : large)
 }
 FNR == 1 { file++ }

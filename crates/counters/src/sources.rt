@@ -1,5 +1,5 @@
 // Which event sources there are: "Supported sources: counting 01h to 06h, 20h to 2Ah, 40h to 45h; peak 2Bh to 2Eh." #102: "Write
-// the decision as the ranges of document 01's line, in that order." A source has 32 bits and is not cut: 12Dh is not 2Dh.
+// the decision as the ranges of document 01's line, in that order." A source has 32 bits and is taken whole: 12Dh is not 2Dh.
 // docs/SOURCES.md lays T10's table beside these ranges.
 ghost use mathlib.Core.Path.{_≡_};
 ghost use Rattle.model.specs.Sources.{counting, peak, supported};

@@ -15,7 +15,7 @@ use Rattle.model.specs.declared.EventAnswer.the-variants.{Counted}
 use Rattle.model.specs.declared.Monitor.{Monitor}
 use Rattle.model.specs.declared.Phy.{Phy}
 use Rattle.model.specs.declared.Shelf.{Shelf}
-use Rattle.model.specs.Counting.{originateTimes, counted, crossed, addError, errorCut, eventOn}
+use Rattle.model.specs.Counting.{originateTimes, counted, crossed, addError, eventOn}
 use Rattle.model.specs.Fits.{Placed}
 use Rattle.model.specs.Reply.{errorAt, monitorAt}
 use Rattle.model.specs.Reports.{eventTaken, event}
@@ -184,7 +184,7 @@ pub placed-event-effect : (s : Shelf) → Placed s → (p source amount : ℕ) {
     → ShelfCounted s p source amount (event s p source amount .shelf)
 unfolding event eventOn event-counted
 placed-event-effect s placed p source amount {cut} told =
-    let (taken, _) = counted-iff (eventTaken (exists s p) source amount) (errorCut source amount (phyAt s p .errors)) cut .0 told in
+    let (taken, _) = counted-iff (eventTaken (exists s p) source amount) _ cut .0 told in
     let (h, four) = phy-placed s p placed (event-done s p source amount .0 taken .phy-exists) in
     rw taken
     (record {

@@ -21,7 +21,7 @@ use Rattle.model.specs.declared.Shelf.{Shelf}
 use Rattle.model.specs.declared.Taken.{Taken}
 use Rattle.model.specs.declared.Taken.the-variants.{Done, NotDone}
 use Rattle.model.specs.Bytes.{byte}
-use Rattle.model.specs.Counting.{originate, crossed, errorCut, eventOn, changeOn}
+use Rattle.model.specs.Counting.{originate, crossed, eventOn, changeOn}
 use Rattle.model.specs.House.{houseNumber, takenNumber, eventNumber, answerNumber}
 use Rattle.model.specs.Reach.{reachSet, reachNumber, reachQuery}
 use Rattle.model.specs.Reports.{eventTaken, event, linkChangeTaken, linkChangeOn, linkChange, reducedFunctionality, sesNotice}
@@ -149,7 +149,7 @@ every-event s p source amount = go (event s p source amount .answer) refl
   where
     go : (answer : EventAnswer) → event s p source amount .answer ≡ answer → EventEnds s p source amount
     go (Counted cut) told =
-        let (taken, _) = counted-iff (eventTaken (exists s p) source amount) (errorCut source amount (phyAt s p .errors)) cut .0 told in
+        let (taken, _) = counted-iff (eventTaken (exists s p) source amount) _ cut .0 told in
         IsCounted cut told (event-told s p source amount cut .0 told .1) (event-gives s p source amount .none .0 (ap eventNumber told))
         (rw taken)
     go (NotCounted house) told =

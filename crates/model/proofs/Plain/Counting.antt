@@ -6,7 +6,7 @@ use mathlib.Core.Path.{_≡_, refl, ap, _∙_}
 use mathlib.Core.Logic.{_↔_, ⊎-elim, Iff·rfl, Iff·trans}
 use mathlib.Core.Bool.{Bool, true, false, cond}
 use mathlib.Core.List.{List, [], _∷_, map}
-use borrow.Author.Tests.{lt-ltb, le-ltb, ne-eqb}
+use borrow.Author.Tests.{ne-eqb}
 use lib.Dec.{T, leb, ltb}
 use lib.ListN.{length, getD, replicate, length-set}
 use Rattle.model.specs.declared.Monitor.{Monitor}
@@ -15,7 +15,7 @@ use Rattle.model.specs.Counting.{originateCrossings, addError, errorCut}
 use Rattle.model.specs.Sources.{peak}
 use Rattle.model.specs.Tests.{within}
 use Rattle.model.proofs.Laws.Places.{All}
-use Rattle.model.proofs.Laws.Tests.{all-three-iff, leb-iff, ltb-iff, cond-both}
+use Rattle.model.proofs.Laws.Tests.{is-true, is-false, all-three-iff, leb-iff, ltb-iff, cond-both}
 
 -- "Originating adds one to that count; FFFFh goes to 0001h."
 pub originate-adds : (count : ℕ) → count < 0xFFFF → originate count ≡ count + 1
@@ -42,22 +42,22 @@ pub wrapping-wraps : (value amount : ℕ) → value < 2 ^ 32 → amount < 2 ^ 32
     → addWrapping value amount ≡ value + amount - 2 ^ 32
 wrapping-wraps value amount v a h = omega arith
 
--- "which stop at FFFFFFFFh"; #104: the new number, and whether the exact sum was above FFFFFFFFh
+-- #104: it "must answer whether the exact sum was above FFFFFFFFh"
+pub saturating-cut : (count amount : ℕ) → T (addSaturating count amount .cut) ↔ (0xFFFFFFFF < count + amount)
+saturating-cut count amount = ltb-iff 0xFFFFFFFF (count + amount)
+
+-- ".. as well as the new number", and error counts "stop at FFFFFFFFh"
 pub saturating-fits : (count amount : ℕ) → count + amount ≤ 0xFFFFFFFF
     → addSaturating count amount ≡ record { number = count + amount; cut = false }
 saturating-fits count amount h =
     let whole : min (count + amount) 0xFFFFFFFF ≡ count + amount = omega arith in
-    rw (le-ltb 0xFFFFFFFF (count + amount) h, whole)
+    rw (whole, is-false (addSaturating count amount .cut) (λ t. let more = saturating-cut count amount .0 t in omega arith))
 
 pub saturating-stops : (count amount : ℕ) → 0xFFFFFFFF < count + amount
     → addSaturating count amount ≡ record { number = 0xFFFFFFFF; cut = true }
 saturating-stops count amount h =
     let most : min (count + amount) 0xFFFFFFFF ≡ 0xFFFFFFFF = omega arith in
-    rw (lt-ltb 0xFFFFFFFF (count + amount) h, most)
-
--- #104: it "must answer whether the exact sum was above FFFFFFFFh"
-pub saturating-cut : (count amount : ℕ) → T (addSaturating count amount .cut) ↔ (0xFFFFFFFF < count + amount)
-saturating-cut count amount = ltb-iff 0xFFFFFFFF (count + amount)
+    rw (most, is-true (addSaturating count amount .cut) (saturating-cut count amount .1 h))
 
 -- and a report is cut exactly where it adds to an error count and that addition is
 pub error-cut-iff : (source amount : ℕ) (errors : List ℕ)
