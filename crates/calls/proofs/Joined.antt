@@ -15,15 +15,15 @@ use Rattle.model.specs.Bytes.{byte}
 use Rattle.model.specs.CrossedOut.{remains}
 use Rattle.model.specs.Fits.{BytesFit, OperationFits, Sound, AllFit, StartFits}
 use Rattle.model.specs.History.{history}
-use Rattle.model.specs.Reply.{errorAt}
 use Rattle.model.specs.Request.{functionOf}
 use Rattle.model.specs.Runs.{Operation, Ask, Event, after, answers}
 use Rattle.model.specs.Server.{leastBuffer}
-use Rattle.model.specs.Shelf.{phyAt}
 use Rattle.model.specs.Tally.{tally}
 use Rattle.model.proofs.Demands.Configured.{Configured}
 use Rattle.model.proofs.Demands.Controlled.{Controlled}
-use Rattle.model.proofs.Demands.ErrorCounts.{CutBy, Stands}
+use Rattle.model.proofs.Demands.Cut.{CutBy}
+use Rattle.model.proofs.Demands.ErrorCounts.{Stands}
+use Rattle.model.proofs.Demands.ErrorSteps.{countOf}
 use Rattle.model.proofs.Demands.EventList.{listFor}
 use Rattle.model.proofs.Demands.History.{IsHistory}
 use Rattle.model.proofs.Demands.Stored.{StoredTogether}
@@ -217,7 +217,7 @@ module _ (linked : Linked) where
     -- amounts since the last 05h or the start until one was told as cut, and FFFFFFFFh from then on;
     pub started-tallied : let run = map seen calls in RunFrom (started x .after) run → AllFit (operations run) → (p k : ℕ) → k < 4
         → Stands (tally p (k + 1) (startOf (started x .asked) .shelf) (operations run))
-        (errorAt (phyAt (shelfOf (lastWords (started x .after) run)) p) k)
+        (countOf p k (shelfOf (lastWords (started x .after) run)))
     started-tallied =
         begun-tallied coded refusal (follows linked .reads-start) (started x) (start-goes x) taken fit (map seen calls) (all-go calls)
 

@@ -22,7 +22,7 @@ use Rattle.model.specs.Runs.{Operation, Ask, Event, LinkChange, ReducedFunction
 use Rattle.model.specs.Server.{leastBuffer, served, lentAfter}
 use Rattle.model.proofs.Demands.Configured.{Configured}
 use Rattle.model.proofs.Demands.Controlled.{Controlled}
-use Rattle.model.proofs.Demands.ErrorCounts.{CutBy, event-cut}
+use Rattle.model.proofs.Demands.Cut.{CutBy, event-cut}
 use Rattle.model.proofs.Demands.EventList.{listFor, ListGiven, list-given}
 use Rattle.model.proofs.Demands.Invariant.{fits-placed}
 use Rattle.model.proofs.Demands.Refusals.{request-gives, event-gives, link-change-gives, query-gives}

@@ -12,11 +12,11 @@ use Rattle.model.specs.CrossedOut.{remains}
 use Rattle.model.specs.Fits.{Sound, AllFit, StartFits}
 use Rattle.model.specs.History.{history}
 use Rattle.model.specs.House.{takenNumber}
-use Rattle.model.specs.Reply.{errorAt}
 use Rattle.model.specs.Runs.{after, answers}
-use Rattle.model.specs.Shelf.{phyAt, startTaken, start}
+use Rattle.model.specs.Shelf.{startTaken, start}
 use Rattle.model.specs.Tally.{tally}
 use Rattle.model.proofs.Demands.ErrorCounts.{Stands, error-count-tallied}
+use Rattle.model.proofs.Demands.ErrorSteps.{countOf}
 use Rattle.model.proofs.Demands.History.{IsHistory, list-is-history}
 use Rattle.model.proofs.Demands.Invariant.{start-sound, after-sound}
 use Rattle.model.proofs.Demands.Isolation.{demand-3}
@@ -95,9 +95,9 @@ module _ {A : Type 0} (coded : Said → A) (refusal : A → ℕ)
               (list-is-history (x .asked .number) (x .asked .groups) (x .asked .table) (x .asked .identifier) (operations run))
 
           pub begun-tallied : (p k : ℕ) → k < 4
-              → Stands (tally p (k + 1) (startOf (x .asked) .shelf) (operations run)) (errorAt (phyAt (shelfOf (lastWords (x .after) run)) p) k)
+              → Stands (tally p (k + 1) (startOf (x .asked) .shelf) (operations run)) (countOf p k (shelfOf (lastWords (x .after) run)))
           begun-tallied p k below =
-              subst⁻¹ (λ s. Stands (tally p (k + 1) (startOf (x .asked) .shelf) (operations run)) (errorAt (phyAt s p) k)) begun-shelf
+              subst⁻¹ (λ s. Stands (tally p (k + 1) (startOf (x .asked) .shelf) (operations run)) (countOf p k s)) begun-shelf
               (error-count-tallied (x .asked .number) (x .asked .groups) (x .asked .table) (x .asked .identifier) (operations run) p k below)
 
           begun-answers : (g : ℕ) → got g run ≡ map (codedTold coded) (answers g (startOf (x .asked) .shelf) (operations run))

@@ -28,7 +28,7 @@ use Rattle.model.specs.Reports.{eventTaken, event, linkChangeTaken, link
 use Rattle.model.specs.Server.{served, lentAfter}
 use Rattle.model.specs.Shelf.{exists, phyAt, put, putDevice, putStore, entryOf, freshShelf, noShelf, outcome, startTaken, start}
 use Rattle.model.specs.Store.{storeAll}
-use Rattle.model.proofs.Demands.ErrorCounts.{CutBy, event-told}
+use Rattle.model.proofs.Demands.Cut.{CutBy, event-told}
 use Rattle.model.proofs.Demands.Refusals.{startRefusals, requestRefusals, eventRefusals, linkChangeRefusals, start-gives}
 use Rattle.model.proofs.Demands.Refusals.{request-gives, event-gives, link-change-gives, request-refusal, event-refusal}
 use Rattle.model.proofs.Demands.Results.{failures, NotRefused, result-drawn, Failed, failed-result, Granted}

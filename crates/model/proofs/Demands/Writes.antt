@@ -1,15 +1,19 @@
 -- Demand 2, the writes: "A write that draws no house refusal takes its full effect exactly when its length, count, phy, zone and contents
--- all pass, and otherwise has no effect at all." And reads never change the shelf. Assumes nothing.
+-- all pass, and otherwise has no effect at all." And reads never change the shelf; so what a request leaves is one of three. Assumes
+-- nothing.
 use Prim.Native.Nat.{ℕ, _+_, _*_, _≤_}
-use native.Mathlib.Nat.{pos-of-ne-zero}
+use native.Mathlib.Nat.{pos-of-ne-zero, eq-zero-or-pos}
 use mathlib.Core.Path.{_≡_, refl, subst⁻¹}
-use mathlib.Core.Logic.{_↔_, Iff·trans, Iff·and}
+use mathlib.Core.Logic.{_↔_, _⊎_, inl, inr, Iff·trans, Iff·and}
+use mathlib.Core.Bool.{Bool, true, false}
 use mathlib.Core.List.{List, [], _∷_, List·Memᴰ, List·Memᴰ·head, List·Memᴰ·tail}
-use lib.Dec.{T}
+use borrow.Author.Tests.{eqb-true, eqb-false}
+use lib.Dec.{T, eqb}
 use lib.ListN.{length}
 use Rattle.model.specs.declared.Shelf.{Shelf}
 use Rattle.model.specs.Bytes.{byte, word}
 use Rattle.model.specs.Fits.{Placed}
+use Rattle.model.specs.House.{answerNumber}
 use Rattle.model.specs.Reach.{reaches}
 use Rattle.model.specs.Request.{functionOf, known, lengthRight, asked}
 use Rattle.model.specs.Results.{grounds}
@@ -20,11 +24,12 @@ use Rattle.model.specs.Writes.{doing, effect}
 use Rattle.model.proofs.Demands.Configured.{Configured, configured-effect}
 use Rattle.model.proofs.Demands.Controlled.{Controlled, controlled-effect}
 use Rattle.model.proofs.Demands.Invariant.{started-placed}
+use Rattle.model.proofs.Demands.Refusals.{request-refusal}
 use Rattle.model.proofs.Demands.Results.{Of, SourcesAllowed, NotRefused, countPasses, checks, verdict-accepted, result-byte}
 use Rattle.model.proofs.Demands.Results.{sources-iff, failed-result, granted-result}
 use Rattle.model.proofs.Laws.Drawn.{AllPass}
 use Rattle.model.proofs.Laws.Handled.{handled-all, accepted-decided}
-use Rattle.model.proofs.Laws.Tests.{leb-iff}
+use Rattle.model.proofs.Laws.Tests.{leb-iff, by-each}
 use Rattle.model.proofs.Plain.Request.{asked-91, asked-93, by-function, right-length-91, right-length-93}
 use Rattle.model.proofs.Plain.Results.{count-right, knownOperations, known-operation}
 
@@ -185,3 +190,48 @@ read-stays s g frame out read =
     (λ no-write. absurd (no-write (List·Memᴰ·head refl)))
     (λ no-write. absurd (no-write (List·Memᴰ·tail (List·Memᴰ·head refl))))
     read)
+
+-- ---- So every request leaves the shelf as it was, or with the full effect of an accepted 91h or 93h.
+
+module _ (s : Shelf) (placed : Placed s) (g : ℕ) (frame out : List ℕ) where
+  -- accepted: no house refusal, and 00h for the result
+  abbrev pub IsGranted : Type 0
+  IsGranted = NotRefused s g frame out × (byte (lentAfter s g frame out) 2 ≡ 0x00)
+
+  pub request-leaves : (P : Shelf → Type 0) → P s
+      → (IsGranted → functionOf frame ≡ 0x91 → ControlPasses s g frame
+      → Controlled s (byte frame 9) (byte frame 10) (served s g frame out .shelf) → P (served s g frame out .shelf))
+      → (IsGranted → functionOf frame ≡ 0x93 → Configured s (byte frame 9) frame (served s g frame out .shelf) → P (served s g frame out .shelf))
+      → P (served s g frame out .shelf)
+  request-leaves P kept control configure = answer (eq-zero-or-pos (answerNumber (served s g frame out .answer)))
+    where
+      stays : served s g frame out .shelf ≡ s → P (served s g frame out .shelf)
+      stays same = subst⁻¹ P same kept
+
+      by-93 : IsGranted → (functionOf frame ≡ 0x91 → ⊥) → (b : Bool) → eqb (functionOf frame) 0x93 ≡ b → P (served s g frame out .shelf)
+      by-93 (answered, drawn) no-91 true e =
+          let is-93 : functionOf frame ≡ 0x93 = eqb-true (functionOf frame) 0x93 e in
+          configure (answered, drawn) is-93
+          (placed-configure-write s placed g frame out answered is-93 .full (configure-accepted s g frame out answered is-93 .0 drawn))
+      by-93 granted no-91 false e =
+          stays
+          (read-stays s g frame out
+          (λ write. by-each ⊥ (functionOf frame) (0x91 ∷ 0x93 ∷ []) write no-91 (eqb-false (functionOf frame) 0x93 e)))
+
+      by-91 : IsGranted → (b : Bool) → eqb (functionOf frame) 0x91 ≡ b → P (served s g frame out .shelf)
+      by-91 (answered, drawn) true e =
+          let is-91 : functionOf frame ≡ 0x91 = eqb-true (functionOf frame) 0x91 e in
+          let passes : ControlPasses s g frame = control-accepted s g frame out answered is-91 .0 drawn in
+          control (answered, drawn) is-91 passes (placed-control-write s placed g frame out answered is-91 .full passes)
+      by-91 granted false e = by-93 granted (eqb-false (functionOf frame) 0x91 e) (eqb (functionOf frame) 0x93) refl
+
+      result : NotRefused s g frame out → (byte (lentAfter s g frame out) 2 ≡ 0x00) ⊎ (1 ≤ byte (lentAfter s g frame out) 2)
+          → P (served s g frame out .shelf)
+      result answered (inl drawn) = by-91 (answered, drawn) (eqb (functionOf frame) 0x91) refl
+      result answered (inr some) =
+          stays (failed-result s g frame out (byte (lentAfter s g frame out) 2) answered refl some .stays)
+
+      answer : (answerNumber (served s g frame out .answer) ≡ 0) ⊎ (1 ≤ answerNumber (served s g frame out .answer))
+          → P (served s g frame out .shelf)
+      answer (inl answered) = result answered (eq-zero-or-pos (byte (lentAfter s g frame out) 2))
+      answer (inr refused) = stays (request-refusal s g frame out refused .0)
