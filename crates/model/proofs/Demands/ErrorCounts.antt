@@ -68,7 +68,7 @@ report-stands t count amount cut stands tells = go (t .cut) refl cut refl
 
 module _ (s : Shelf) (placed : Placed s) (p k : ℕ) (below : k < 4) (t : Tally) (stands : Stands t (countOf p k s)) where
   -- what the tally takes for an accepted 05h of this phy is one
-  sets-iff : (g : ℕ) (frame out : List ℕ) → T (setsErrorsTo0 p s g frame out) ↔ Clears s placed p k below g frame out
+  sets-iff : (g : ℕ) (frame out : List ℕ) → T (setsErrorsTo0 p s g frame out) ↔ Clears p s g frame out
   sets-iff g frame out =
       both-iff (eqb (functionOf frame) 0x91 && eqb (byte frame 9) p && eqb (byte frame 10) 0x05) (isAccepted s g frame out)
       (all-three-iff (eqb (functionOf frame) 0x91) (eqb (byte frame 9) p) (eqb (byte frame 10) 0x05)

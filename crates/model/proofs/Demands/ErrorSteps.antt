@@ -24,7 +24,7 @@ use Rattle.model.proofs.Demands.Configured.{Configured}
 use Rattle.model.proofs.Demands.Controlled.{Has, changeOriginated, errorless, Controlled}
 use Rattle.model.proofs.Demands.Events.{placed-event-effect}
 use Rattle.model.proofs.Demands.Refusals.{event-refusal}
-use Rattle.model.proofs.Demands.Writes.{IsGranted, control-accepted, placed-control-write, request-leaves}
+use Rattle.model.proofs.Demands.Writes.{Accepted, control-accepted, placed-control-write, request-leaves}
 use Rattle.model.proofs.Laws.Checks.{house-some, every-outcome}
 use Rattle.model.proofs.Laws.Places.{change-at, replicate-each}
 use Rattle.model.proofs.Laws.Tests.{by-each}
@@ -35,6 +35,10 @@ use Rattle.model.proofs.Plain.Start.{fresh-phys, fresh-past}
 -- error count k of phy p
 abbrev pub countOf : ℕ → ℕ → Shelf → ℕ
 countOf p k s = errorAt (phyAt s p) k
+
+-- an accepted 91h of phy p with 05h
+abbrev pub Clears : ℕ → Shelf → ℕ → List ℕ → List ℕ → Type 0
+Clears p s g frame out = ((functionOf frame ≡ 0x91) × (byte frame 9 ≡ p) × (byte frame 10 ≡ 0x05)) × Accepted s g frame out
 
 -- of four counts at 0, and past them, each is 0
 zeros : (x : Phy) (k : ℕ) → errorAt (errorless x) k ≡ 0
@@ -124,18 +128,14 @@ module _ (s : Shelf) (placed : Placed s) (p k : ℕ) (below : k < 4) where
   -- ---- A request
 
   module _ (g : ℕ) (frame out : List ℕ) where
-    -- an accepted 91h of this phy with 05h
-    abbrev pub Clears : Type 0
-    Clears = ((functionOf frame ≡ 0x91) × (byte frame 9 ≡ p) × (byte frame 10 ≡ 0x05)) × IsGranted s placed g frame out
-
-    pub request-clears : Clears → countOf p k (served s g frame out .shelf) ≡ 0
+    pub request-clears : Clears p s g frame out → countOf p k (served s g frame out .shelf) ≡ 0
     request-clears ((e, here, clear), (answered, drawn)) =
         control-clears
         (placed-control-write s placed g frame out answered e .full (control-accepted s g frame out answered e .0 drawn))
         here
         clear
 
-    pub request-keeps : (Clears → ⊥) → Keeps (served s g frame out .shelf)
+    pub request-keeps : (Clears p s g frame out → ⊥) → Keeps (served s g frame out .shelf)
     request-keeps other =
         request-leaves s placed g frame out Keeps refl
         (λ granted e passes done. control-keeps done (passes .contents) (λ here clear. other ((e, here, clear), granted)))

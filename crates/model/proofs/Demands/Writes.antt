@@ -193,45 +193,48 @@ read-stays s g frame out read =
 
 -- ---- So every request leaves the shelf as it was, or with the full effect of an accepted 91h or 93h.
 
+-- accepted: no house refusal, and 00h for the result
+abbrev pub Accepted : Shelf → ℕ → List ℕ → List ℕ → Type 0
+Accepted s g frame out = NotRefused s g frame out × (byte (lentAfter s g frame out) 2 ≡ 0x00)
+
 module _ (s : Shelf) (placed : Placed s) (g : ℕ) (frame out : List ℕ) where
-  -- accepted: no house refusal, and 00h for the result
-  abbrev pub IsGranted : Type 0
-  IsGranted = NotRefused s g frame out × (byte (lentAfter s g frame out) 2 ≡ 0x00)
+  -- the shelf afterwards, and the result in the buffer
+  abbrev left : Shelf
+  left = served s g frame out .shelf
+
+  abbrev code : ℕ
+  code = byte (lentAfter s g frame out) 2
 
   pub request-leaves : (P : Shelf → Type 0) → P s
-      → (IsGranted → functionOf frame ≡ 0x91 → ControlPasses s g frame
-      → Controlled s (byte frame 9) (byte frame 10) (served s g frame out .shelf) → P (served s g frame out .shelf))
-      → (IsGranted → functionOf frame ≡ 0x93 → Configured s (byte frame 9) frame (served s g frame out .shelf) → P (served s g frame out .shelf))
-      → P (served s g frame out .shelf)
-  request-leaves P kept control configure = answer (eq-zero-or-pos (answerNumber (served s g frame out .answer)))
+      → (Accepted s g frame out → functionOf frame ≡ 0x91 → ControlPasses s g frame → Controlled s (byte frame 9) (byte frame 10) left → P left)
+      → (Accepted s g frame out → functionOf frame ≡ 0x93 → Configured s (byte frame 9) frame left → P left)
+      → P left
+  request-leaves P kept control configure = refusal (eq-zero-or-pos (answerNumber (served s g frame out .answer)))
     where
-      stays : served s g frame out .shelf ≡ s → P (served s g frame out .shelf)
+      stays : left ≡ s → P left
       stays same = subst⁻¹ P same kept
 
-      by-93 : IsGranted → (functionOf frame ≡ 0x91 → ⊥) → (b : Bool) → eqb (functionOf frame) 0x93 ≡ b → P (served s g frame out .shelf)
+      by-93 : Accepted s g frame out → (functionOf frame ≡ 0x91 → ⊥) → (b : Bool) → eqb (functionOf frame) 0x93 ≡ b → P left
       by-93 (answered, drawn) no-91 true e =
           let is-93 : functionOf frame ≡ 0x93 = eqb-true (functionOf frame) 0x93 e in
           configure (answered, drawn) is-93
           (placed-configure-write s placed g frame out answered is-93 .full (configure-accepted s g frame out answered is-93 .0 drawn))
-      by-93 granted no-91 false e =
+      by-93 accepted no-91 false e =
           stays
           (read-stays s g frame out
           (λ write. by-each ⊥ (functionOf frame) (0x91 ∷ 0x93 ∷ []) write no-91 (eqb-false (functionOf frame) 0x93 e)))
 
-      by-91 : IsGranted → (b : Bool) → eqb (functionOf frame) 0x91 ≡ b → P (served s g frame out .shelf)
+      by-91 : Accepted s g frame out → (b : Bool) → eqb (functionOf frame) 0x91 ≡ b → P left
       by-91 (answered, drawn) true e =
           let is-91 : functionOf frame ≡ 0x91 = eqb-true (functionOf frame) 0x91 e in
           let passes : ControlPasses s g frame = control-accepted s g frame out answered is-91 .0 drawn in
           control (answered, drawn) is-91 passes (placed-control-write s placed g frame out answered is-91 .full passes)
-      by-91 granted false e = by-93 granted (eqb-false (functionOf frame) 0x91 e) (eqb (functionOf frame) 0x93) refl
+      by-91 accepted false e = by-93 accepted (eqb-false (functionOf frame) 0x91 e) (eqb (functionOf frame) 0x93) refl
 
-      result : NotRefused s g frame out → (byte (lentAfter s g frame out) 2 ≡ 0x00) ⊎ (1 ≤ byte (lentAfter s g frame out) 2)
-          → P (served s g frame out .shelf)
+      result : NotRefused s g frame out → (code ≡ 0x00) ⊎ (1 ≤ code) → P left
       result answered (inl drawn) = by-91 (answered, drawn) (eqb (functionOf frame) 0x91) refl
-      result answered (inr some) =
-          stays (failed-result s g frame out (byte (lentAfter s g frame out) 2) answered refl some .stays)
+      result answered (inr some) = stays (failed-result s g frame out code answered refl some .stays)
 
-      answer : (answerNumber (served s g frame out .answer) ≡ 0) ⊎ (1 ≤ answerNumber (served s g frame out .answer))
-          → P (served s g frame out .shelf)
-      answer (inl answered) = result answered (eq-zero-or-pos (byte (lentAfter s g frame out) 2))
-      answer (inr refused) = stays (request-refusal s g frame out refused .0)
+      refusal : (answerNumber (served s g frame out .answer) ≡ 0) ⊎ (1 ≤ answerNumber (served s g frame out .answer)) → P left
+      refusal (inl answered) = result answered (eq-zero-or-pos code)
+      refusal (inr refused) = stays (request-refusal s g frame out refused .0)
