@@ -22,6 +22,7 @@ pub record Follows (I : Interface) : Type 0 where
   pub reads : (s : Shelf) (o : Operation) → I .refusal (I .coded (said s o)) ≡ saidNumber (said s o)
   pub reads-cut : (s : Shelf) (o : Operation) → I .cut (I .coded (said s o)) ≡ saysCut (said s o)
   pub reads-start : (taken : Taken) → I .refusal (I .coded (ToReport taken)) ≡ takenNumber taken
+  pub reads-start-cut : (taken : Taken) → I .cut (I .coded (ToReport taken)) ≡ false
   pub asks : (ws : List ℕ) (o : Operation) → (call : I .Call) × (I .seen call .before ≡ ws) × (I .seen call .asked ≡ o)
   pub begins : (ws : List ℕ) (given : Given) → (x : I .Start) × (I .started x .before ≡ ws) × (I .started x .asked ≡ given)
 

@@ -244,6 +244,7 @@ host-follows =
       reads = λ s o. said-reads s o .number;
       reads-cut = said-tells;
       reads-start = λ taken. taken-reads taken .number;
+      reads-start-cut = taken-tells;
       asks = host-asks;
       begins = host-begins;
     }

@@ -6,7 +6,8 @@
 -- (`Memory`; where their number is enough, `length .. ≡ shelfWords`), a frame is bytes and an amount has 32 bits (`AllFit`, `BytesFit`), a
 -- start is given 32 rows of 32 bits and 8 bytes (`StartFits`). `Widths` has these from the toolchain's own types. Assumes nothing.
 use Prim.Native.Nat.{ℕ, _+_, _≤_, _<_}
-use mathlib.Core.Path.{_≡_, refl, ap₂, subst}
+use mathlib.Core.Path.{_≡_, refl, ap, ap₂, subst, _∙_}
+use mathlib.Core.Bool.{false}
 use mathlib.Core.Logic.{_↔_}
 use mathlib.Core.List.{List, [], _∷_, map}
 use lib.Dec.{T}
@@ -128,6 +129,9 @@ module _ (linked : Linked) where
   pub call-cut-is-event : (call : Call) → let c = seen call in length (c .before) ≡ shelfWords → T (cut (c .told))
       → (p : ℕ) × (source : ℕ) × (amount : ℕ) × (c .asked ≡ Event p source amount)
   call-cut-is-event call long = cut-told-to-events coded (seen call) (call-goes call long) cut (follows linked .reads-cut)
+
+  pub start-uncut : (x : Start) → cut (started x .told) ≡ false
+  start-uncut x = ap cut (start-goes x .told) ∙ follows linked .reads-start-cut (startOf (started x .asked) .taken)
 
   -- a request of group g that draws no house refusal
   module _ (call : Call) (g : ℕ) (frame out : List ℕ) (asks : seen call .asked ≡ Ask g frame out)

@@ -136,6 +136,7 @@ server-follows =
       reads = λ s o. refl;
       reads-cut = λ s o. refl;
       reads-start = λ taken. refl;
+      reads-start-cut = λ taken. refl;
       asks = server-asks;
       begins = server-begins;
     }
