@@ -1,7 +1,8 @@
 -- One call that goes as the model does: nothing but the words and what is asked for matters to it; its house refusal is the lowest that
 -- applies, and leaves words and buffer; H6 tells a cut frame and H10 a wrong one, and neither learns anything; a failed result leaves the
 -- words; a write has its full effect or none; group 1 is given the list of stored peak events, no other group is, and what is stored
--- comes with its origination. Assumes nothing.
+-- comes with its origination; and that its own addition was cut (#104) is told to an event report exactly if it was, and to nothing else.
+-- Assumes nothing.
 use Prim.Native.Nat.{ℕ, _≤_, _<_}
 use native.Mathlib.Omega.{arith}
 use mathlib.Core.Path.{_≡_, refl, sym, ap, ap₂, subst, subst⁻¹, _∙_}
