@@ -6,8 +6,8 @@
  * At the end stands whether any word of the shelf is another than before.
  *
  * shelf_day.expected was worked out from what document 01, and document 02's #101 for the list of
- * stored peak events, #103 for H10, #104 for an addition that was cut and #105 for a threshold under a
- * standing peak, say; it stands at each step. firmware/run builds this program, runs it and compares.
+ * stored peak events, #103 for H10 and #104 for an addition that was cut, say; it stands at each step.
+ * firmware/run builds this program, runs it and compares.
  */
 #include "kinubarsil.h"
 #include "smp_gate.h"
@@ -273,38 +273,6 @@ static void stored(void)
     ASK(A, "the list, length 00h", 0x40, 0x21, 0, 0x00, 0, 0, 0, 1);
 }
 
-/* 93h of one descriptor: monitor 0 of phy 1 watches 2Bh from this threshold on. */
-static void watch(struct asker from, const char *what, uint8_t count, bool clears, uint8_t threshold)
-{
-    ASK(from, what, 0x40, 0x93, 0, 0x04, 0, count, clears, 0, 0, 1, 0, 1, 0, 0, 0, 0x2B, 0, 0, 0, threshold);
-}
-
-static void lowered(void)
-{
-    puts("A lowers a threshold under a standing peak.");
-    /* #105, "A threshold set under a standing peak must be heard": "each monitor that a descriptor named,
-     * whose source is a peak source, whose threshold is not 0 and whose value is at or above it,
-     * originates Expander 1h once". Monitor 0 of phy 1 watches 2Bh from 200 on since the morning. */
-    event(1, 0x2B, 150); /* below it */
-    watch(A, "phy 1, 2Bh from 100 on", 4, false, 100); /* at once: entry 0005h */
-    list(A, "what has happened", 0x04);
-    read_list(desk, "the list, from 0005h", 5); /* the value, and the new threshold */
-    /* "unless that descriptor repeated the monitor's own source and threshold" */
-    watch(A, "phy 1, 2Bh from 100 on, again", 4, false, 100);
-    event(1, 0x2B, 180); /* was not below */
-    watch(A, "phy 1, 2Bh from 120 on", 4, false, 120); /* raised, and under the value: entry 0006h */
-    watch(A, "phy 1, 2Bh from 180 on", 4, false, 180); /* "at or above it": entry 0007h */
-    watch(A, "phy 1, 2Bh from 181 on", 4, false, 181); /* above the value */
-    watch(A, "phy 1, 2Bh, no threshold", 4, false, 0); /* "whose threshold is not 0" */
-    watch(A, "phy 1, 2Bh from 50 on, with 0003h", 3, false, 50); /* 04h, and nothing is set */
-    watch(B, "phy 1, 2Bh from 50 on", 4, false, 50);             /* 20h: phy 1 is A's */
-    /* "once a 93h request has set its descriptors and done its clear": the peak is stored with the 180
-     * that it had, entry 0008h, and then it is 0, below 50. Expander 2h alone. */
-    watch(A, "phy 1, 2Bh from 50 on, and clears", 4, true, 50);
-    list(A, "what has happened", 0x04);
-    read_list(desk, "the list, from 0006h", 6);
-}
-
 /* A frame that is no request, and what the judge of smp_gate.h, which needs no shelf, says of it: the
  * same. */
 static void no_request(const char *what, const uint8_t *frame, size_t size)
@@ -356,7 +324,6 @@ int main(void)
     stuck();
     notices();
     stored();
-    lowered();
     bad_frames();
     night();
 }

@@ -58,13 +58,13 @@ unsafe fn start(side: &Side, shelf: Memory, phys: u32) -> u32 {
     (side.start)(shelf, phys, GROUPS.as_ptr(), TABLE.as_ptr(), IDENTIFIER.as_ptr())
 }
 
-/// A shelf of a side, freshly started and prepared for the stream of this name.
-fn prepared(side: &Side, name: &str, phys: u32, out: &mut [u8; ROOM]) -> Memory {
+/// A freshly started and prepared shelf of a side.
+fn prepared(side: &Side, phys: u32, out: &mut [u8; ROOM]) -> Memory {
     let shelf = side.memory();
     // SAFETY: the side's own memory.
     unsafe {
         start(side, shelf, phys);
-        for preparation in streams::preparation(name, phys) {
+        for preparation in streams::preparation(phys) {
             call(side, shelf, &preparation, out);
         }
     }
@@ -82,11 +82,11 @@ fn run(side: &Side, shelf: Memory, stream: &[Call], n: u64, out: &mut [u8; ROOM]
     sum
 }
 
-fn measure(side: &str, name: &str, phys: u32, n: u64) -> Option<u128> {
+fn measure(side: &str, stream: &str, phys: u32, n: u64) -> Option<u128> {
     let side = black_box(Side::named(side)?);
-    let stream = streams::stream(name, phys)?;
+    let stream = streams::stream(stream, phys)?;
     let mut out = [0; ROOM];
-    let shelf = prepared(&side, name, phys, &mut out);
+    let shelf = prepared(&side, phys, &mut out);
     black_box(run(&side, shelf, &stream, n.min(240), &mut out));
     let begin = Instant::now();
     black_box(run(&side, shelf, &stream, n, &mut out));
@@ -94,11 +94,11 @@ fn measure(side: &str, name: &str, phys: u32, n: u64) -> Option<u128> {
 }
 
 /// The stack that a whole stream takes below the loop.
-fn stack(side: &str, name: &str, phys: u32) -> Option<usize> {
+fn stack(side: &str, stream: &str, phys: u32) -> Option<usize> {
     let side = black_box(Side::named(side)?);
-    let stream = streams::stream(name, phys)?;
+    let stream = streams::stream(stream, phys)?;
     let mut out = [0; ROOM];
-    let shelf = prepared(&side, name, phys, &mut out);
+    let shelf = prepared(&side, phys, &mut out);
     Some(painted::used(&mut || {
         black_box(run(&side, shelf, &stream, stream.len() as u64, &mut out));
     }))
@@ -112,7 +112,7 @@ fn check() -> Result<usize, String> {
         let stream = streams::stream(name, phys).ok_or("no such stream")?;
         let sides = ["host", "twin"].map(|name| Side::named(name).expect("a side"));
         let mut outs = [[0; ROOM]; 2];
-        let shelves = [0, 1].map(|i| prepared(&sides[i], name, phys, &mut outs[i]));
+        let shelves = [0, 1].map(|i| prepared(&sides[i], phys, &mut outs[i]));
         let last = [0, 1].map(|i| last_stored(&sides[i], shelves[i]));
         for next in stream.iter().cycle().take(2 * stream.len()) {
             // SAFETY: each side's own memory.

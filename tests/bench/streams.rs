@@ -4,8 +4,7 @@
 //! The shelf: phys in groups 8 and 9 by turns; row 8 has bits 1 and 8, row 9 bits 1 and 9, the
 //! other rows from 2 up bit 1 alone. Source 1 reaches all phys, 8 and 9 half of them each. All phys
 //! have a Change, an Expander 1h and an Expander 2h count; monitors watch 01h, 2Dh, 20h and 2Eh.
-//! The store of peak events is full. For `93heard` and `93repeat` all four monitors watch 2Dh, and
-//! a peak stands over each threshold.
+//! The store of peak events is full.
 
 pub enum Call {
     Start { phys: u32 },
@@ -18,11 +17,11 @@ pub enum Call {
 
 /// Every stream.
 #[rustfmt::skip]
-pub const NAMES: [&str; 38] = [
-    "start", "00", "01", "06", "11", "14", "21", "21newest", "91", "93", "93set", "93none",
-    "93heard", "93repeat", "event", "counting", "errors", "cut", "crossing", "below", "link_change",
-    "notice", "reach", "mixed", "h4", "h5", "h6", "h10", "result01", "result03", "result21",
-    "result04", "result10", "result16", "result20", "result13", "result02", "result17",
+pub const NAMES: [&str; 36] = [
+    "start", "00", "01", "06", "11", "14", "21", "21newest", "91", "93", "93set", "93none", "event",
+    "counting", "errors", "cut", "crossing", "below", "link_change", "notice", "reach", "mixed",
+    "h4", "h5", "h6", "h10", "result01", "result03", "result21", "result04", "result10", "result16",
+    "result20", "result13", "result02", "result17",
 ];
 
 pub const fn groups() -> [u32; 24] {
@@ -84,8 +83,8 @@ fn last_stored(phys: u32) -> u32 {
     3 * phys + 2 * 16
 }
 
-/// What is done to a fresh shelf before the stream of this name.
-pub fn preparation(name: &str, phys: u32) -> Vec<Call> {
+/// What is done to a fresh shelf before the stream.
+pub fn preparation(phys: u32) -> Vec<Call> {
     let mut calls = vec![Call::Notice { ses: false }, Call::Notice { ses: true }];
     for phy in 0..phys {
         let watch = [(0x01, 0), (0x2D, 10), (0x20, 0), (0x2E, 1000)];
@@ -95,16 +94,7 @@ pub fn preparation(name: &str, phys: u32) -> Vec<Call> {
         calls.push(Call::LinkChange { phy });
     }
     calls.extend((0..16).map(|_| request(1, configure(0, 1, &[]))));
-    if let "93heard" | "93repeat" = name {
-        calls.extend((0..phys).flat_map(four_peaks));
-    }
     calls
-}
-
-/// Four peaks of 20 that stand over thresholds of 11.
-fn four_peaks(phy: u32) -> [Call; 2] {
-    let watch = request(1, configure(phy, 0, &[(0x2D, 11); 4]));
-    [watch, Call::Event { phy, source: 0x2D, amount: 20 }]
 }
 
 /// The stream of this name: call i of 240.
@@ -137,12 +127,6 @@ fn call(name: &str, i: u32, phys: u32) -> Option<Call> {
         "93set" => request(1, configure(phy, 0, &[(0x01, 5), ([0x2D, 0x2E][turn % 2], 10)])),
         // A clear that finds no peak: stores nothing.
         "93none" => request(1, configure(phy, 1, &[(0x00, 0); 4])),
-        // Another threshold under each of four standing peaks: four are heard and stored. With 1, 8
-        // or 24 phys each has an even number of turns, and finds 11 when the stream begins anew.
-        "93heard" => request(1, configure(phy, 0, &[(0x2D, [10, 11][turn % 2]); 4])),
-        // Each repeats its monitor's source and threshold, over the same peaks: nothing is heard.
-        // So the difference of the two streams is what hearing four costs with their store.
-        "93repeat" => request(1, configure(phy, 0, &[(0x2D, 11); 4])),
         // 2Dh crosses once on each phy, in the first 240 calls; from then on nothing is stored.
         "event" => Call::Event { phy, source: [0x01, 0x2D, 0x20, 0x45][turn % 4], amount: i },
         // Counting sources alone.
@@ -183,9 +167,8 @@ pub fn stores(name: &str) -> Option<u16> {
     match name {
         "crossing" => Some(120),
         "93" => Some(480),
-        "93heard" => Some(960),
-        "93set" | "93none" | "93repeat" | "counting" | "errors" | "cut" | "below" | "21"
-        | "21newest" | "result21" => Some(0),
+        "93set" | "93none" | "counting" | "errors" | "cut" | "below" | "21" | "21newest"
+        | "result21" => Some(0),
         _ => None,
     }
 }

@@ -358,21 +358,6 @@ static void unstore(struct smp_shelf *shelf, const struct smp_shelf *before)
     shelf->count = before->count;
 }
 
-static void store(struct smp_shelf *shelf, uint32_t phy, struct smp_monitor monitor)
-{
-    shelf->count++;
-    shelf->last++;
-    *entry(shelf, 0) = (struct smp_entry){.phy = phy, .monitor = monitor};
-}
-
-/* The two newest entries, in each other's place. */
-static void turn_two(struct smp_shelf *shelf)
-{
-    struct smp_entry newest = *entry(shelf, 0);
-    *entry(shelf, 0) = *entry(shelf, 1);
-    *entry(shelf, 1) = newest;
-}
-
 static uint32_t clears_unstored(struct asked *a)
 {
     struct smp_shelf before = *a->shelf;
@@ -386,129 +371,6 @@ static uint32_t stores_after_the_clear(struct asked *a)
     uint32_t before = a->shelf->count, told = truth(a);
     for (uint32_t stored = a->shelf->count - before; stored > 0; stored--)
         entry(a->shelf, stored - 1)->monitor.value = 0;
-    return told;
-}
-
-/* A threshold under a standing peak: a monitor before and after an accepted 93h, and whether a descriptor
- * named it. */
-struct setting {
-    struct smp_monitor before, now;
-    bool named;
-};
-
-static bool stands(struct smp_monitor m) { return is_peak(m.source) && m.threshold != 0 && m.value >= m.threshold; }
-static bool other_source(const struct setting *s) { return s->before.source != s->now.source; }
-static bool other_threshold(const struct setting *s) { return s->before.threshold != s->now.threshold; }
-static bool moved(const struct setting *s) { return s->named && (other_source(s) || other_threshold(s)); }
-static bool heard(const struct setting *s) { return moved(s) && stands(s->now); }
-
-/* Heard by another rule: what the true server heard is taken back. It never hears in a clear, so what a
- * clear stored stays. A rule may also change what is stored. */
-static uint32_t heard_by(struct asked *a, bool (*rule)(struct setting *))
-{
-    struct smp_shelf before = *a->shelf;
-    const struct smp_phy *phy_before = &before.phys[a->frame[9] % 24];
-    uint32_t told = truth(a);
-    if (!asks(a, CONFIGURE) || !accepted(a, told))
-        return told;
-    phy_of(a)->expander1 = phy_before->expander1;
-    if ((a->frame[6] & 1) == 0)
-        unstore(a->shelf, &before);
-    for (int i = 0; i < 4; i++) {
-        struct setting s = {phy_before->monitors[i], phy_of(a)->monitors[i], i < a->frame[11]};
-        if (rule(&s)) {
-            phy_of(a)->expander1++;
-            store(a->shelf, a->frame[9], s.now);
-        }
-    }
-    return told;
-}
-
-/* With the value before the request: that of another source, or that before the clear. */
-static bool stood(const struct setting *s)
-{
-    struct smp_monitor m = s->now;
-    m.value = s->before.value;
-    return moved(s) && stands(m);
-}
-
-static bool at_zero(const struct setting *s) { return moved(s) && is_peak(s->now.source) && s->now.threshold == 0; }
-static bool reached(const struct setting *s) { return s->now.threshold != 0 && s->now.value >= s->now.threshold; }
-
-static bool never(struct setting *s) { (void)s; return false; }
-static bool repeats_too(struct setting *s) { return s->named && stands(s->now); }
-static bool fallen(struct setting *s) { return heard(s) && s->now.threshold < s->before.threshold; }
-static bool crossed(struct setting *s) { return heard(s) && s->now.value < s->before.threshold; }
-static bool exceeded(struct setting *s) { return heard(s) && s->now.value > s->now.threshold; }
-static bool zero_too(struct setting *s) { return heard(s) || at_zero(s); }
-static bool unnamed_too(struct setting *s) { return heard(s) || (!s->named && stands(s->now)); }
-static bool counters_too(struct setting *s) { return moved(s) && reached(s); }
-static bool new_source_too(struct setting *s) { return heard(s) || (other_source(s) && stood(s)); }
-static bool cleared_too(struct setting *s) { return heard(s) || (!other_source(s) && stood(s)); }
-
-static bool old_threshold(struct setting *s)
-{
-    bool is_heard = heard(s);
-    s->now.threshold = s->before.threshold;
-    return is_heard;
-}
-
-static uint32_t never_heard(struct asked *a) { return heard_by(a, never); }
-static uint32_t heard_on_a_repeat(struct asked *a) { return heard_by(a, repeats_too); }
-static uint32_t heard_where_it_fell(struct asked *a) { return heard_by(a, fallen); }
-static uint32_t heard_where_it_crosses(struct asked *a) { return heard_by(a, crossed); }
-static uint32_t heard_where_exceeded(struct asked *a) { return heard_by(a, exceeded); }
-static uint32_t heard_at_zero(struct asked *a) { return heard_by(a, zero_too); }
-static uint32_t heard_unnamed(struct asked *a) { return heard_by(a, unnamed_too); }
-static uint32_t heard_of_counters(struct asked *a) { return heard_by(a, counters_too); }
-static uint32_t heard_of_a_new_source(struct asked *a) { return heard_by(a, new_source_too); }
-static uint32_t heard_before_the_clear(struct asked *a) { return heard_by(a, cleared_too); }
-static uint32_t heard_with_the_old_threshold(struct asked *a) { return heard_by(a, old_threshold); }
-
-/* Tries on a copy of the shelf what would be heard if the count were the present one. */
-static uint32_t heard_though_refused(struct asked *a)
-{
-    struct asked tried = *a;
-    struct smp_shelf copy = *a->shelf;
-    uint32_t told = truth(a);
-    if (!asks(a, CONFIGURE) || smp_refused(told) || a->out[2] != 0x04)
-        return told;
-    tried.shelf = &copy;
-    takes_any_count(&tried);
-    phy_of(a)->expander1 = phy_of(&tried)->expander1;
-    return failed(a, 0x04);
-}
-
-/* The broadcasts and the entries of one request, which belong together. */
-static uint32_t heard_once_for_all(struct asked *a)
-{
-    uint32_t before = phy_of(a)->expander1, told = truth(a);
-    if (phy_of(a)->expander1 > before)
-        phy_of(a)->expander1 = before + 1;
-    return told;
-}
-
-static uint32_t stored_unheard(struct asked *a)
-{
-    uint32_t before = phy_of(a)->expander1, told = truth(a);
-    phy_of(a)->expander1 = before;
-    return told;
-}
-
-static uint32_t heard_unstored(struct asked *a)
-{
-    struct smp_shelf before = *a->shelf;
-    uint32_t heard_before = phy_of(a)->expander1, told = truth(a);
-    if (phy_of(a)->expander1 != heard_before)
-        unstore(a->shelf, &before);
-    return told;
-}
-
-static uint32_t heard_falling(struct asked *a)
-{
-    uint32_t before = phy_of(a)->expander1, told = truth(a);
-    if (phy_of(a)->expander1 == before + 2)
-        turn_two(a->shelf);
     return told;
 }
 
@@ -577,10 +439,14 @@ static void stores_the_old_value(struct reported *r)
         entry(r->shelf, 0)->monitor.value = r->before.monitors[0].value;
 }
 
+/* Two that a report stored, in each other's place. */
 static void stores_falling(struct reported *r)
 {
-    if (r->shelf->count == r->shelf_before->count + 2)
-        turn_two(r->shelf);
+    if (r->shelf->count == r->shelf_before->count + 2) {
+        struct smp_entry newest = *entry(r->shelf, 0);
+        *entry(r->shelf, 0) = *entry(r->shelf, 1);
+        *entry(r->shelf, 1) = newest;
+    }
 }
 
 /* Two that a report stored count as one. */
@@ -596,8 +462,11 @@ static void stores_one_of_several(struct reported *r)
 static void stores_uncrossed(struct reported *r)
 {
     const struct smp_monitor *first = &r->phy->monitors[0];
-    if (is_peak(r->source) && first->source == r->source && r->shelf->count == r->shelf_before->count)
-        store(r->shelf, 0, *first);
+    if (is_peak(r->source) && first->source == r->source && r->shelf->count == r->shelf_before->count) {
+        r->shelf->count++;
+        r->shelf->last++;
+        *entry(r->shelf, 0) = (struct smp_entry){.phy = 0, .monitor = *first};
+    }
 }
 
 static const struct {
@@ -659,22 +528,6 @@ static const struct {
     {"lists_as_published", lists_as_published},
     {"clears_unstored", clears_unstored},
     {"stores_after_the_clear", stores_after_the_clear},
-    {"never_heard", never_heard},
-    {"heard_on_a_repeat", heard_on_a_repeat},
-    {"heard_where_it_fell", heard_where_it_fell},
-    {"heard_where_it_crosses", heard_where_it_crosses},
-    {"heard_where_exceeded", heard_where_exceeded},
-    {"heard_at_zero", heard_at_zero},
-    {"heard_unnamed", heard_unnamed},
-    {"heard_of_counters", heard_of_counters},
-    {"heard_of_a_new_source", heard_of_a_new_source},
-    {"heard_before_the_clear", heard_before_the_clear},
-    {"heard_with_the_old_threshold", heard_with_the_old_threshold},
-    {"heard_though_refused", heard_though_refused},
-    {"heard_once_for_all", heard_once_for_all},
-    {"stored_unheard", stored_unheard},
-    {"heard_unstored", heard_unstored},
-    {"heard_falling", heard_falling},
 };
 
 /* An error count that has stuck. */

@@ -58,7 +58,6 @@ fn episode(
     let state = states::words(random);
     let mut operations = Vec::with_capacity(400);
     pair.load(&state);
-    tally.begin();
     let length = (50 + u64::from(random.below(350))).min(most);
     let begin_with_start = random.chance(50);
     while (operations.len() as u64) < length {

@@ -226,13 +226,27 @@ impl Shelf {
         }
         // "then 17h UNKNOWN PHY EVENT SOURCE (93h). The first failing descriptor settles the
         // answer", and nothing is set before all are judged.
-        if let Some(place) = descriptors.iter().position(unknown) {
-            if cfg!(fault = "set_before_refusal") {
-                phy.configure(p, &descriptors[..place], false, &mut self.store);
+        for (monitor, descriptor) in phy.monitors.iter_mut().zip(descriptors) {
+            if unknown(descriptor) {
+                return Err(UNKNOWN_PHY_EVENT_SOURCE);
             }
-            return Err(UNKNOWN_PHY_EVENT_SOURCE);
+            if cfg!(fault = "set_before_refusal") {
+                monitor.configure(descriptor);
+            }
         }
-        phy.configure(p, descriptors, head[6] & 1 == 1, &mut self.store);
+        let clear = head[6] & 1 == 1;
+        if clear && cfg!(fault = "clear_before_set") {
+            phy.clear_peaks(p, &mut self.store);
+        }
+        if clear && cfg!(fault = "stored_before_set") {
+            phy.keep_peaks(p, &mut self.store);
+        }
+        for (monitor, descriptor) in phy.monitors.iter_mut().zip(descriptors) {
+            monitor.configure(descriptor);
+        }
+        if clear && !cfg!(fault = "clear_before_set") {
+            phy.clear_peaks(p, &mut self.store);
+        }
         accepted::<4>(out, CONFIGURE_PHY_EVENT);
         Ok(4)
     }

@@ -54,14 +54,6 @@ fn phy(random: &mut Random, shelf: &Shelf) -> u32 {
     }
 }
 
-/// Of four existing phys, the one with the most peaks that are not 0.
-fn with_peaks(random: &mut Random, shelf: &Shelf) -> u32 {
-    let is_one = |monitor: &&Monitor| twin::is_peak(monitor.source) && monitor.value > 0;
-    let peaks = |p: u32| shelf.phys[p as usize].monitors.iter().filter(is_one).count();
-    let four = [0; 4].map(|_| random.below(existing(shelf)));
-    four.into_iter().max_by_key(|&p| peaks(p)).unwrap_or(0)
-}
-
 /// A source group, most often one that reaches some phys.
 fn group(random: &mut Random, shelf: &Shelf) -> u32 {
     match random.below(20) {
@@ -145,7 +137,7 @@ fn frame(random: &mut Random, shelf: &Shelf) -> Vec<u8> {
         0 => random.below(131),
         1 => random.pick(&[4, 5, 125, 126, 127, 128]),
         2 | 3 => 5 + random.below(2),
-        _ => random.pick(&[0, 1, 2, 3, 4, 4]),
+        _ => random.below(5),
     } as usize;
     let (size, length) = match function {
         0x00 | 0x01 | 0x06 => (4, 0),
@@ -223,92 +215,34 @@ fn control(random: &mut Random, shelf: &Shelf, frame: &mut [u8]) {
     };
 }
 
-/// How the descriptors of a 93h are chosen.
-#[derive(Clone, Copy)]
-enum Style {
-    Any,
-    /// All on one peak source, with low thresholds, so that a report takes several to theirs.
-    OnePeak(u8),
-    /// Thresholds about the peaks that stand (#105).
-    Standing,
-    /// Thresholds at those peaks or just under them, so that several are heard.
-    Under,
-    /// Sources and thresholds as they are.
-    Repeat,
-}
-
-fn style(random: &mut Random) -> Style {
-    match random.below(20) {
-        0..=2 => Style::OnePeak(states::peak_source(random)),
-        3..=7 => Style::Standing,
-        8..=10 => Style::Under,
-        11 => Style::Repeat,
-        _ => Style::Any,
-    }
-}
-
 fn configure(random: &mut Random, shelf: &Shelf, frame: &mut [u8], d: usize) {
     expected_count(random, shelf, frame);
-    let style = style(random);
     frame[6] = random.word() as u8;
-    // Where peaks are to stand: often on a phy that has some, and without a clear.
-    if !matches!(style, Style::Any | Style::OnePeak(_)) && random.chance(60) {
-        frame[6] &= 0xFE;
-        frame[9] = with_peaks(random, shelf) as u8;
-    }
     frame[11] = d as u8;
     let monitors = &shelf.phys[usize::from(frame[9]).min(23)].monitors;
+    // Now and then all on one peak source, with low thresholds, so that a report takes several to
+    // theirs.
+    let peak = random.chance(15).then(|| states::peak_source(random));
     for (i, descriptor) in frame[12..].chunks_exact_mut(8).enumerate() {
-        let monitor = &monitors[i % 4];
-        let (source, threshold) = match style {
-            Style::Any => any(random, monitor),
-            Style::OnePeak(peak) => (peak, monitor.value.min(200) + random.below(30)),
-            Style::Standing => standing(random, monitor),
-            Style::Under => (monitor.source, monitor.value.saturating_sub(random.below(3))),
-            Style::Repeat => (monitor.source, monitor.threshold),
+        let monitor = monitors[i % 4];
+        descriptor[3] = match random.below(40) {
+            0..=11 => monitor.source,
+            12..=14 => 0x00,
+            15 => random.pick(&UNSUPPORTED),
+            16 => random.below(256) as u8,
+            _ => states::event_source(random),
         };
-        descriptor[3] = source;
+        if let Some(peak) = peak {
+            descriptor[3] = peak;
+        }
+        let threshold = match random.below(4) {
+            _ if peak.is_some() => monitor.value.min(200) + random.below(30),
+            0 => monitor.value.wrapping_add(random.below(3)),
+            1 => random.below(0x20),
+            _ => random.number(),
+        };
         descriptor[4..8].copy_from_slice(&threshold.to_be_bytes());
     }
-}
-
-/// A descriptor, source and threshold: any, or the monitor's own source, and any threshold.
-fn any(random: &mut Random, monitor: &Monitor) -> (u8, u32) {
-    let source = match random.below(40) {
-        0..=11 => monitor.source,
-        12..=14 => 0x00,
-        15 => random.pick(&UNSUPPORTED),
-        16 => random.below(256) as u8,
-        _ => states::event_source(random),
-    };
-    let threshold = match random.below(4) {
-        0 => monitor.value.wrapping_add(random.below(3)),
-        1 => random.below(0x20),
-        _ => random.number(),
-    };
-    (source, threshold)
-}
-
-/// A descriptor about a peak that stands: most often its own source, and a threshold beside the
-/// value, under it, the monitor's own or not far from that, or 0.
-fn standing(random: &mut Random, monitor: &Monitor) -> (u8, u32) {
-    let &Monitor { source, value, threshold } = monitor;
-    let source = match random.below(20) {
-        0 => random.pick(&UNSUPPORTED),
-        1 | 2 => states::peak_source(random),
-        _ => source,
-    };
-    let threshold = match random.below(10) {
-        0 => value.wrapping_sub(1),
-        1 => value,
-        2 | 3 => value.wrapping_add(1),
-        4 => 0,
-        5 | 6 => threshold,
-        7 => threshold.saturating_add(1 + random.below(3)).min(value),
-        8 => threshold.saturating_sub(1 + random.below(3)).min(value),
-        _ => random.below(value.saturating_add(1)),
-    };
-    (source, threshold)
 }
 
 /// Spoils a frame: a byte changed, cut, made longer, another first byte, or another frame

@@ -1,5 +1,5 @@
 //! The thirteen cases of document 01's "Shelf W, for checking", and its "Easily got wrong"; then
-//! document 02's #101, #103, #104 and #105 on the same shelf.
+//! document 02's #101 and #103 on the same shelf.
 
 use super::judge::{judge, Judgement, Wrong};
 use super::*;
@@ -476,12 +476,11 @@ fn what_stores_nothing() {
     late[5] = 9;
     assert_eq!(serve(&mut shelf, 8, &late).unwrap()[2], INVALID_EXPANDER_CHANGE_COUNT);
     assert_eq!(serve(&mut shelf, 32, &configure(0, 1, &[])), Err(H4));
-    // A threshold above a standing peak (one at or under it stores: #105), a report that does not
-    // come up to it, and a report that H9 refuses.
-    serve(&mut shelf, 8, &configure(0, 0, &[(0x2B, 10), (0x2D, 7)])).unwrap();
-    assert_eq!(shelf.phys[0].monitors[1], Monitor { source: 0x2D, value: 5, threshold: 7 });
-    shelf.event(0, 0x2D, 6).unwrap();
+    // A threshold under a standing peak, and a report that H9 refuses.
+    serve(&mut shelf, 8, &configure(0, 0, &[(0x2B, 10), (0x2D, 5)])).unwrap();
+    assert_eq!(shelf.phys[0].monitors[1], Monitor { source: 0x2D, value: 5, threshold: 5 });
     assert_eq!(shelf.event(0, 0x2B, 0x100), Err(H9));
+    shelf.event(0, 0x2D, 6).unwrap();
     assert_eq!(shelf.store, store);
 }
 
@@ -598,173 +597,4 @@ fn a_monitor_that_wraps_is_not_cut() {
     assert_eq!(shelf.event(0, 0x02, 1), Ok(false));
     assert_eq!((shelf.phys[0].errors[1], shelf.phys[0].monitors[1].value), (1, 0));
     assert_eq!(shelf.phys[0].monitors[0].value, 0xFFFF_FFFE);
-}
-
-/// A monitor: source, value, threshold.
-type Watch = (u8, u32, u32);
-
-/// Shelf W, the monitors of phy 0 as given.
-fn watching(monitors: [Watch; 4]) -> Shelf {
-    let mut shelf = shelf_w();
-    shelf.phys[0].monitors =
-        monitors.map(|(source, value, threshold)| Monitor { source, value, threshold });
-    shelf
-}
-
-/// Serves a 93h about phy 0, accepted: by how much Expander 1h and 2h moved, and what was stored.
-/// Besides these, only the monitors may move.
-fn outcome(shelf: &mut Shelf, clear: u8, descriptors: &[(u8, u32)]) -> (u16, u16, Vec<Watch>) {
-    let before = *shelf;
-    assert_eq!(serve(shelf, 8, &configure(0, clear, descriptors)).unwrap(), OK_93);
-    let (was, is) = (before.phys[0], shelf.phys[0]);
-    let (expander1, expander2) = (is.expander1 - was.expander1, is.expander2 - was.expander2);
-    let stored = &shelf.store.entries[before.store.count as usize..shelf.store.count as usize];
-    assert!(stored.iter().all(|entry| entry.phy == 0));
-    let watches = stored.iter().map(|&Entry { monitor, .. }| monitor);
-    let watches = watches.map(|monitor| (monitor.source, monitor.value, monitor.threshold));
-    let mut rest = *shelf;
-    (rest.phys[0].monitors, rest.store) = (was.monitors, before.store);
-    (rest.phys[0].expander1, rest.phys[0].expander2) = (was.expander1, was.expander2);
-    assert_eq!(rest, before);
-    (expander1, expander2, watches.collect())
-}
-
-/// What `outcome` gives where nothing is heard and nothing cleared.
-const NOTHING: (u16, u16, Vec<Watch>) = (0, 0, Vec::new());
-
-/// #105: "Contractor A lowered one below a standing peak and waited a week for nothing."
-#[test]
-fn a_threshold_lowered_under_a_standing_peak_is_heard() {
-    let mut shelf = shelf_w();
-    assert_eq!(outcome(&mut shelf, 0, &[(0x2D, 100)]), NOTHING);
-    shelf.event(0, 0x2D, 50).unwrap();
-    assert_eq!(listed(&mut shelf, 1), (2, 0, 0, 0, vec![]));
-    assert_eq!(outcome(&mut shelf, 0, &[(0x2D, 40)]), (1, 0, vec![(0x2D, 50, 40)]));
-    let broadcast = [0x41, 6, 0, 3, 0, 1, 4, 1, 0, 0, 1, 0, 0, 1, 0, 0];
-    assert_eq!(serve(&mut shelf, 8, &[0x40, 6, 4, 0]).unwrap(), broadcast);
-    let first = [0, 0, 0, 0x2D, 0, 0, 0, 50, 0, 0, 0, 40];
-    assert_eq!(listed(&mut shelf, 1), (5, 1, 1, 1, vec![first]));
-    // "After it, document 01's rule for reports is as before": it is at or above already.
-    for amount in [39, 40, 50, 60, 0xFFFF_FFFF] {
-        shelf.event(0, 0x2D, amount).unwrap();
-        assert_eq!((shelf.phys[0].expander1, shelf.store.last), (1, 1));
-    }
-    assert_eq!(outcome(&mut shelf, 0, &[(0x2D, 40)]), NOTHING);
-    // After a clear it is below, and a report crosses.
-    assert_eq!(outcome(&mut shelf, 1, &[]), (0, 1, vec![(0x2D, 0xFFFF_FFFF, 40)]));
-    shelf.event(0, 0x2D, 41).unwrap();
-    assert_eq!((shelf.phys[0].expander1, shelf.store.last), (2, 3));
-}
-
-/// "whose threshold is not 0 and whose value is at or above it, .. unless that descriptor repeated
-/// the monitor's own source and threshold": the value is 50; the old and the new threshold.
-#[test]
-fn which_thresholds_are_heard() {
-    let lowered = [(100, 50), (100, 49), (100, 1), (51, 50), (50, 49), (10, 9), (u32::MAX, 1)];
-    let raised = [(10, 50), (10, 11), (49, 50), (0, 1), (0, 50)];
-    let above = [(100, 51), (10, 51), (50, 51), (0, 51), (0, u32::MAX), (u32::MAX, 100)];
-    let to_0 = [(100, 0), (50, 0), (1, 0)];
-    let repeated = [(0, 0), (1, 1), (10, 10), (50, 50), (51, 51), (100, 100)];
-    for source in 0x2B..=0x2E {
-        let tell = |(old, new)| outcome(&mut watching([(source, 50, old); 4]), 0, &[(source, new)]);
-        for (old, new) in [&lowered[..], &raised].concat() {
-            assert_eq!(tell((old, new)), (1, 0, vec![(source, 50, new)]));
-        }
-        for thresholds in [&above[..], &to_0, &repeated].concat() {
-            assert_eq!(tell(thresholds), NOTHING);
-        }
-        let mut shelf = watching([(source, u32::MAX, 0); 4]);
-        let most = (source, u32::MAX);
-        assert_eq!(outcome(&mut shelf, 0, &[most]), (1, 0, vec![(source, u32::MAX, u32::MAX)]));
-    }
-    // A value of 0 is at or above no threshold but 0.
-    assert_eq!(outcome(&mut watching([(0x2D, 0, 5); 4]), 0, &[(0x2D, 1), (0x2D, 0)]), NOTHING);
-}
-
-/// "whose source is a peak source", and "A changed source has value 0".
-#[test]
-fn other_sources_and_changed_ones_are_not_heard() {
-    for source in [0x00, 0x01, 0x06, 0x20, 0x2A, 0x40, 0x45] {
-        let mut shelf = watching([(source, 50, 100); 4]);
-        assert_eq!(outcome(&mut shelf, 0, &[(source, 10); 4]), NOTHING);
-        // To a peak source with the same threshold and with another, and back.
-        assert_eq!(outcome(&mut shelf, 0, &[(0x2D, 10), (0x2E, 5)]), NOTHING);
-        assert_eq!(outcome(&mut shelf, 0, &[(source, 10), (source, 1)]), NOTHING);
-    }
-    let mut shelf = watching([(0x2D, 50, 40); 4]);
-    let moves = [(0x2E, 40), (0x2E, 10), (0x2C, 100), (0x2C, 0)];
-    assert_eq!(outcome(&mut shelf, 0, &moves), NOTHING);
-    assert_eq!(outcome(&mut shelf, 0, &[(0x2D, 40), (0x2D, 10), (0x2D, 100), (0x2D, 0)]), NOTHING);
-    assert_eq!(shelf.phys[0].monitors.map(|monitor| monitor.value), [0; 4]);
-}
-
-/// "each monitor that a descriptor named", "by place: descriptor i names monitor i"; "originates
-/// Expander 1h once", and in monitor order.
-#[test]
-fn each_named_monitor_is_heard_once_and_no_other() {
-    let monitors = [(0x2D, 50, 10), (0x2B, 60, 70), (0x2E, 70, 10), (0x2D, 80, 80)];
-    let descriptors = [(0x2D, 9), (0x2B, 60), (0x2E, 70), (0x2D, 1)];
-    let heard = [(0x2D, 50, 9), (0x2B, 60, 60), (0x2E, 70, 70), (0x2D, 80, 1)];
-    for d in 0..=4 {
-        let mut shelf = watching(monitors);
-        assert_eq!(outcome(&mut shelf, 0, &descriptors[..d]), (d as u16, 0, heard[..d].to_vec()));
-        assert_eq!(outcome(&mut shelf, 0, &descriptors[..d]), NOTHING);
-    }
-    // Bits 1 to 7 of byte 6 clear nothing.
-    let four = (4, 0, heard.to_vec());
-    assert_eq!(outcome(&mut watching(monitors), 0xFE, &descriptors), four);
-    let mut shelf = watching(monitors);
-    shelf.phys[0].expander1 = 0xFFFE;
-    serve(&mut shelf, 8, &configure(0, 0, &descriptors)).unwrap();
-    assert_eq!((shelf.phys[0].expander1, shelf.store.last), (0x0003, 4));
-}
-
-/// "unless that descriptor repeated the monitor's own source and threshold": not another's, and not
-/// the source alone.
-#[test]
-fn a_repeat_is_by_its_own_monitor() {
-    let mut shelf = watching([(0x2D, 50, 10), (0x2D, 50, 20), (0x2E, 50, 30), (0x2E, 50, 40)]);
-    let swapped = [(0x2D, 20), (0x2D, 10), (0x2E, 30), (0x2E, 41)];
-    let heard = vec![(0x2D, 50, 20), (0x2D, 50, 10), (0x2E, 50, 41)];
-    assert_eq!(outcome(&mut shelf, 0, &swapped), (3, 0, heard));
-    assert_eq!(outcome(&mut shelf, 0, &swapped), NOTHING);
-    let last = [(0x2D, 20), (0x2D, 10), (0x2E, 30), (0x2E, 40)];
-    assert_eq!(outcome(&mut shelf, 0, &last), (1, 0, vec![(0x2E, 50, 40)]));
-}
-
-/// "a clear leaves every peak at 0, so one request gives entries of a clear or of this rule and
-/// never both"
-#[test]
-fn a_clear_leaves_nothing_to_hear() {
-    let mut shelf = watching([(0x2D, 50, 100), (0x2D, 60, 10), (0x01, 70, 0), (0x2E, 80, 40)]);
-    let descriptors = [(0x2D, 40), (0x2B, 5), (0x01, 7)];
-    let cleared = vec![(0x2D, 50, 40), (0x2B, 0, 5), (0x2E, 80, 40)];
-    assert_eq!(outcome(&mut shelf, 1, &descriptors), (0, 1, cleared));
-    let cleared = vec![(0x2D, 0, 1), (0x2B, 0, 1), (0x2E, 0, 1)];
-    assert_eq!(
-        outcome(&mut shelf, 1, &[(0x2D, 1), (0x2B, 1), (0x01, 1), (0x2E, 1)]),
-        (0, 1, cleared)
-    );
-    // A clear that finds no peak, all of them moved off.
-    let mut shelf = watching([(0x2D, 50, 100); 4]);
-    assert_eq!(outcome(&mut shelf, 1, &[(0x01, 40); 4]), NOTHING);
-}
-
-/// `serve` sees that nothing moves in a failed request.
-#[test]
-fn a_refused_93h_is_not_heard() {
-    let mut shelf = watching([(0x2D, 50, 100); 4]);
-    let good = configure(0, 0, &[(0x2D, 40), (0x2D, 30)]);
-    let mut late = good.clone();
-    late[5] = 9;
-    assert_eq!(serve(&mut shelf, 8, &late).unwrap()[2], INVALID_EXPANDER_CHANGE_COUNT);
-    assert_eq!(serve(&mut shelf, 9, &good).unwrap()[2], SMP_ZONE_VIOLATION);
-    let five = configure(0, 0, &[(0x2D, 40); 5]);
-    assert_eq!(serve(&mut shelf, 8, &five).unwrap()[2], SMP_FUNCTION_FAILED);
-    let unknown = configure(0, 0, &[(0x2D, 40), (0x2D, 40), (0x2D, 40), (0x07, 40)]);
-    assert_eq!(serve(&mut shelf, 8, &unknown).unwrap()[2], UNKNOWN_PHY_EVENT_SOURCE);
-    assert_eq!(serve(&mut shelf, 8, &good[..20]).unwrap()[2], INVALID_REQUEST_FRAME_LENGTH);
-    assert_eq!(serve(&mut shelf, 32, &good), Err(H4));
-    let heard = vec![(0x2D, 50, 40), (0x2D, 50, 30)];
-    assert_eq!(outcome(&mut shelf, 0, &[(0x2D, 40), (0x2D, 30)]), (2, 0, heard));
 }

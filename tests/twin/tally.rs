@@ -58,13 +58,12 @@ marks! {
     Operation05 "91h error counts to 0",
     FourDescriptors "93h with four descriptors accepted",
     ClearNothing "93h clearing, no peak watched",
-    Expander1 "reports that originate Expander 1h",
+    Expander1 "Expander 1h originations",
     Expander1More "reports that originate Expander 1h more than once",
     Expander2 "Expander 2h originations",
     ChangesRound "change count FFFFh to 0001h",
     Change0Round "Change FFFFh to 0001h",
-    Expander1Round "Expander 1h FFFFh to 0001h or beyond by a report",
-    HeardRound "Expander 1h FFFFh to 0001h or beyond by a 93h",
+    Expander1Round "Expander 1h FFFFh to 0001h or beyond",
     Expander2Round "Expander 2h FFFFh to 0001h",
     Expander3Round "Expander 3h FFFFh to 0001h",
     SesRound "SES FFFFh to 0001h",
@@ -106,27 +105,6 @@ marks! {
     Refused02 "02h to a clear that would have stored",
     Refused17 "17h to a clear that would have stored",
     RefusedH9 "H9 to a report that would have stored",
-    Heard1 "93h that hear and store one peak",
-    Heard2 "93h that hear and store two peaks",
-    Heard3 "93h that hear and store three peaks",
-    Heard4 "93h that hear and store four peaks",
-    HeardLowered "93h that hear a lowered threshold",
-    HeardRaised "93h that hear a raised threshold",
-    HeardEqual "93h that hear a threshold equal to the value",
-    HeardBesideRepeat "93h that hear one peak and repeat the threshold of another",
-    HeardBesideUnnamed "93h that hear one peak and leave another unnamed",
-    Unheard1Above "93h unheard, a threshold one above a peak",
-    UnheardRepeat "93h unheard, a repeat over a standing peak",
-    Unheard0 "93h unheard, threshold 0 over a peak",
-    UnheardUnnamed "93h unheard, a standing peak unnamed",
-    UnheardMoved "93h unheard, a peak moved to another peak source under its old value",
-    UnheardMovedTo "93h unheard, a monitor moved to a peak source from none under its old value",
-    UnheardCleared "93h unheard, a clear of peaks that would have been heard",
-    Unheard04 "04h to a 93h that would have been heard",
-    Unheard20 "20h to a 93h that would have been heard",
-    Unheard02 "02h to a 93h that would have been heard",
-    Unheard17 "17h to a 93h that would have been heard",
-    HeardThenReport "larger reports on a peak that was heard, nothing originated",
     StoreFirst "stores into an empty store",
     StoreFills "stores that fill it",
     StoreFull "stores into a full store",
@@ -141,29 +119,16 @@ marks! {
 
 const REPORTS: [Mark; 4] = [Mark::Report1, Mark::Report2, Mark::Report3, Mark::Report4];
 const CLEARS: [Mark; 4] = [Mark::Clear1, Mark::Clear2, Mark::Clear3, Mark::Clear4];
-const HEARD: [Mark; 4] = [Mark::Heard1, Mark::Heard2, Mark::Heard3, Mark::Heard4];
 
 pub struct Tally {
     refusals: [u64; 11],
     results: [[u64; 0x22]; 8],
     marks: [u64; MARKS.len()],
-    /// The monitors that were heard (#105) and that no 93h has set or cleared since.
-    heard: [[bool; 4]; 24],
 }
 
 impl Tally {
     pub fn new() -> Tally {
-        Tally {
-            refusals: [0; 11],
-            results: [[0; 0x22]; 8],
-            marks: [0; MARKS.len()],
-            heard: [[false; 4]; 24],
-        }
-    }
-
-    /// Begins an episode, on another state.
-    pub fn begin(&mut self) {
-        self.heard = [[false; 4]; 24];
+        Tally { refusals: [0; 11], results: [[0; 0x22]; 8], marks: [0; MARKS.len()] }
     }
 
     fn mark(&mut self, mark: Mark, occurred: bool) {
@@ -180,11 +145,23 @@ impl Tally {
         out: &[u8],
     ) {
         if told >> 31 == 1 {
-            return self.refused(operation, told & 0xF, before);
+            self.refusals[(told & 0xF) as usize] += 1;
+            self.mark(Mark::H4Serve, told & 0xF == 4 && is_request(operation));
+            self.mark(Mark::H4Reach, told & 0xF == 4 && !is_request(operation));
+            self.mark(
+                Mark::H7Event,
+                told & 0xF == 7 && matches!(operation, Operation::Event { .. }),
+            );
+            let link_change = matches!(operation, Operation::LinkChange { .. });
+            self.mark(Mark::H7LinkChange, told & 0xF == 7 && link_change);
+            self.mark(Mark::RefusedH9, told & 0xF == 9 && would_cross(operation, before));
+            if let Operation::Serve { frame, .. } = operation {
+                self.no_request(told & 0xF, frame);
+            }
+            return;
         }
         match operation {
             Operation::Start(_) => {
-                self.begin();
                 self.mark(Mark::StartEmpties, before.store.kept() > 0);
                 return self.mark(Mark::Start, true);
             }
@@ -194,12 +171,8 @@ impl Tally {
                 self.response(frame, out, before, after)
             }
             &Operation::Event { source, amount, phy } => {
-                let p = phy as usize;
                 self.mark(Mark::Event, true);
-                self.event(&before.phys[p], source as u8, amount, told == 1);
-                let moved = before.phys[p].expander1 != after.phys[p].expander1;
-                let later = self.is_later(p, &before.phys[p], source, amount);
-                self.mark(Mark::HeardThenReport, later && !moved);
+                self.event(&before.phys[phy as usize], source as u8, amount, told == 1);
             }
             Operation::LinkChange { .. } => self.mark(Mark::LinkChange, true),
             Operation::Notice { ses } => {
@@ -207,23 +180,8 @@ impl Tally {
             }
             Operation::Reach { .. } => self.mark(Mark::Reach, true),
         }
-        self.counts(operation, before, after);
-        self.stored(stores_by(operation, before, after), &before.store, &after.store);
-    }
-
-    /// A house refusal.
-    fn refused(&mut self, operation: &Operation, refusal: u32, before: &Shelf) {
-        let event = matches!(operation, Operation::Event { .. });
-        let link_change = matches!(operation, Operation::LinkChange { .. });
-        self.refusals[refusal as usize] += 1;
-        self.mark(Mark::H4Serve, refusal == 4 && is_request(operation));
-        self.mark(Mark::H4Reach, refusal == 4 && !is_request(operation));
-        self.mark(Mark::H7Event, refusal == 7 && event);
-        self.mark(Mark::H7LinkChange, refusal == 7 && link_change);
-        self.mark(Mark::RefusedH9, refusal == 9 && would_cross(operation, before));
-        if let Operation::Serve { frame, .. } = operation {
-            self.no_request(refusal, frame);
-        }
+        self.counts(about(operation), before, after);
+        self.stored(is_request(operation), &before.store, &after.store);
     }
 
     /// H6 and H10: what else was wrong with the frame.
@@ -249,8 +207,15 @@ impl Tally {
             return self.mark(Mark::Unknown, result == 0x01);
         };
         self.results[row][usize::from(result)] += 1;
-        if function == 0x93 && result != 0x03 {
-            self.configure(frame, result, before, after);
+        if function == 0x93 && frame.len() >= 12 && frame[6] & 1 == 1 {
+            let number = usize::from(before.number).min(24);
+            if let Some(phy) = before.phys[..number].get(usize::from(frame[9])) {
+                let watched = phy.monitors.iter().any(|monitor| is_peak(monitor.source));
+                self.mark(Mark::Refused04, result == 0x04 && watched);
+                self.mark(Mark::Refused20, result == 0x20 && watched);
+                self.mark(Mark::Refused02, result == 0x02 && watched);
+                self.mark(Mark::Refused17, result == 0x17 && watched);
+            }
         }
         if result != 0 {
             return;
@@ -271,52 +236,16 @@ impl Tally {
                 self.mark(Mark::Operation03Again, frame[10] == 0x03 && !was);
                 self.mark(Mark::Operation05, frame[10] == 0x05);
             }
+            0x93 => {
+                let p = usize::from(frame[9]);
+                let moved = before.phys[p].expander2 != after.phys[p].expander2;
+                self.mark(Mark::FourDescriptors, frame[11] == 4);
+                self.mark(Mark::ClearNothing, frame[6] & 1 == 1 && !moved);
+                if frame[6] & 1 == 1 {
+                    self.clear(&before.phys[p], &after.phys[p]);
+                }
+            }
             _ => {}
-        }
-    }
-
-    /// A 93h of a right length.
-    fn configure(&mut self, frame: &[u8], result: u8, before: &Shelf, after: &Shelf) {
-        let (p, clear) = (usize::from(frame[9]), frame[6] & 1 == 1);
-        let number = usize::from(before.number).min(24);
-        let Some(was) = before.phys[..number].get(p) else {
-            return;
-        };
-        if result != 0 {
-            let would_store = clear && was.monitors.iter().any(|monitor| is_peak(monitor.source));
-            let would_hear = !clear && named(frame, was).any(|named| named.is_heard());
-            return self.failed(result, would_store, would_hear);
-        }
-        let is = &after.phys[p];
-        let heard = was.expander1 != is.expander1;
-        self.mark(Mark::FourDescriptors, frame[11] == 4);
-        self.mark(Mark::ClearNothing, clear && was.expander2 == is.expander2);
-        if clear {
-            let would_hear = named(frame, was).any(|named| named.is_heard());
-            self.mark(Mark::UnheardCleared, would_hear && !heard);
-            self.clear(was, is);
-        } else {
-            self.thresholds(frame, was, heard);
-        }
-        for (heard, named) in self.heard[p].iter_mut().zip(named(frame, was)) {
-            *heard = named.is_heard();
-        }
-        if clear {
-            self.heard[p] = [false; 4];
-        }
-    }
-
-    /// A 93h that failed, and that would have stored by its clear or been heard.
-    fn failed(&mut self, result: u8, would_store: bool, would_hear: bool) {
-        let marks = [
-            (0x04, Mark::Refused04, Mark::Unheard04),
-            (0x20, Mark::Refused20, Mark::Unheard20),
-            (0x02, Mark::Refused02, Mark::Unheard02),
-            (0x17, Mark::Refused17, Mark::Unheard17),
-        ];
-        for (failure, refused, unheard) in marks {
-            self.mark(refused, result == failure && would_store);
-            self.mark(unheard, result == failure && would_hear);
         }
     }
 
@@ -330,37 +259,6 @@ impl Tally {
         self.mark(Mark::ClearMovedTo, any(|was, is| !is_peak(was) && is_peak(is)));
         self.mark(Mark::ClearMovedOff, stores && off);
         self.mark(Mark::ClearAllMovedOff, !stores && off);
-    }
-
-    /// An accepted 93h without a clear: which of its thresholds are heard (#105), or, if none is,
-    /// why.
-    fn thresholds(&mut self, frame: &[u8], was: &Phy, heard: bool) {
-        let any = |kind: fn(&Named) -> bool| named(frame, was).any(|named| kind(&named));
-        let heard_as =
-            |kind: fn(&Named) -> bool| named(frame, was).any(|n| n.is_heard() && kind(&n));
-        let repeat = any(|named| named.stands() && !named.is_heard());
-        let unnamed = was.monitors.iter().skip(usize::from(frame[11])).any(stands);
-        if heard {
-            self.mark(Mark::HeardLowered, heard_as(|named| named.to < named.own.threshold));
-            self.mark(Mark::HeardRaised, heard_as(|named| named.to > named.own.threshold));
-            self.mark(Mark::HeardEqual, heard_as(|named| named.to == named.own.value));
-            self.mark(Mark::HeardBesideRepeat, repeat);
-            self.mark(Mark::HeardBesideUnnamed, unnamed);
-        } else {
-            self.mark(Mark::Unheard1Above, any(Named::is_1_above));
-            self.mark(Mark::UnheardRepeat, repeat);
-            self.mark(Mark::Unheard0, any(Named::is_to_0));
-            self.mark(Mark::UnheardUnnamed, unnamed);
-            self.mark(Mark::UnheardMoved, any(|named| named.is_moved() && named.was_peak()));
-            self.mark(Mark::UnheardMovedTo, any(|named| named.is_moved() && !named.was_peak()));
-        }
-    }
-
-    /// Whether a report is larger than a peak on its source that was heard before it.
-    fn is_later(&self, p: usize, phy: &Phy, source: u32, amount: u32) -> bool {
-        phy.monitors.iter().zip(self.heard[p]).any(|(monitor, heard)| {
-            heard && u32::from(monitor.source) == source && amount > monitor.value
-        })
     }
 
     /// An accepted 21h with this start.
@@ -408,36 +306,32 @@ impl Tally {
         }
     }
 
-    /// What the operation did to the counts. How often a 93h originates Expander 1h is left to
-    /// `stored`.
-    fn counts(&mut self, operation: &Operation, before: &Shelf, after: &Shelf) {
+    /// What the operation did to the counts.
+    fn counts(&mut self, phy: Option<usize>, before: &Shelf, after: &Shelf) {
         let round = |before: u16, after: u16| before == 0xFFFF && after == 0x0001;
         self.mark(Mark::NumberAbove24, before.number > 24);
         self.mark(Mark::ChangesRound, round(before.changes, after.changes));
         self.mark(Mark::Expander3Round, round(before.expander3, after.expander3));
         self.mark(Mark::SesRound, round(before.ses0, after.ses0));
-        let phys = |p| before.phys.get(p).zip(after.phys.get(p));
-        let Some((was, is)) = about(operation).and_then(phys) else {
+        let Some((was, is)) = phy.and_then(|p| before.phys.get(p).zip(after.phys.get(p))) else {
             return;
         };
-        let report = !is_request(operation);
-        let expander1_round = if report { Mark::Expander1Round } else { Mark::HeardRound };
         self.mark(Mark::GroupAbove31, was.group > 31);
-        self.mark(Mark::Expander1, report && was.expander1 != is.expander1);
-        self.mark(Mark::Expander1More, report && is.expander1 > was.expander1.saturating_add(1));
+        self.mark(Mark::Expander1, was.expander1 != is.expander1);
+        self.mark(Mark::Expander1More, is.expander1 > was.expander1.saturating_add(1));
         self.mark(Mark::Expander2, was.expander2 != is.expander2);
         self.mark(Mark::Change0Round, round(was.change0, is.change0));
-        self.mark(expander1_round, was.expander1 > is.expander1);
+        self.mark(Mark::Expander1Round, was.expander1 > is.expander1);
         self.mark(Mark::Expander2Round, round(was.expander2, is.expander2));
     }
 
-    /// What the operation stored; `by` are the marks for one to four.
-    fn stored(&mut self, by: [Mark; 4], before: &Store, after: &Store) {
+    /// What the operation stored; a request stores by a clear.
+    fn stored(&mut self, by_clear: bool, before: &Store, after: &Store) {
         let more = (after.count % 32 + 32 - before.count % 32) % 32;
         if !(1..=4).contains(&more) {
             return;
         }
-        self.mark(by[more as usize - 1], true);
+        self.mark(if by_clear { CLEARS } else { REPORTS }[more as usize - 1], true);
         self.mark(Mark::StoreFirst, before.last == 0 && before.count == 0);
         self.mark(Mark::StoreFills, before.kept() < 32 && after.kept() == 32);
         self.mark(Mark::StoreFull, before.kept() == 32);
@@ -491,80 +385,6 @@ impl Tally {
 
 fn is_request(operation: &Operation) -> bool {
     matches!(operation, Operation::Serve { .. })
-}
-
-/// By what an operation stores, if it does. A request stores by a clear or by #105, never by both:
-/// a clear leaves every peak at 0, which no threshold but 0 is at or under.
-fn stores_by(operation: &Operation, before: &Shelf, after: &Shelf) -> [Mark; 4] {
-    let mut phys = before.phys.iter().zip(&after.phys);
-    let cleared = phys.any(|(was, is)| was.expander2 != is.expander2);
-    match operation {
-        Operation::Serve { .. } if cleared => CLEARS,
-        Operation::Serve { .. } => HEARD,
-        _ => REPORTS,
-    }
-}
-
-/// "whose source is a peak source, whose threshold is not 0 and whose value is at or above it"
-fn stands(monitor: &Monitor) -> bool {
-    is_peak(monitor.source) && monitor.threshold != 0 && monitor.value >= monitor.threshold
-}
-
-/// A monitor that a descriptor of a 93h names, before the request; and the source and the threshold
-/// that it is to have.
-struct Named {
-    own: Monitor,
-    source: u8,
-    to: u32,
-}
-
-impl Named {
-    /// The monitor with the new threshold stands, on its own source.
-    fn stands(&self) -> bool {
-        self.source == self.own.source && stands(&Monitor { threshold: self.to, ..self.own })
-    }
-
-    /// It is heard, if the request is accepted and clears nothing.
-    fn is_heard(&self) -> bool {
-        self.stands() && self.to != self.own.threshold
-    }
-
-    /// A peak that is not 0 stays on its source.
-    fn is_kept(&self) -> bool {
-        self.source == self.own.source && is_peak(self.source) && self.own.value > 0
-    }
-
-    /// A threshold one above the value, and not the one before.
-    fn is_1_above(&self) -> bool {
-        let above = self.own.value.checked_add(1) == Some(self.to);
-        self.is_kept() && above && self.to != self.own.threshold
-    }
-
-    /// A threshold of 0, and not before.
-    fn is_to_0(&self) -> bool {
-        self.is_kept() && self.to == 0 && self.own.threshold != 0
-    }
-
-    /// The monitor is on a peak source before the request.
-    fn was_peak(&self) -> bool {
-        is_peak(self.own.source)
-    }
-
-    /// To another source, a peak source, on which the old value would stand.
-    fn is_moved(&self) -> bool {
-        let &Named { own, source, to } = self;
-        source != own.source && stands(&Monitor { source, threshold: to, ..own })
-    }
-}
-
-/// The monitors that a 93h names: descriptor i names monitor i.
-fn named<'a>(frame: &'a [u8], phy: &'a Phy) -> impl Iterator<Item = Named> + 'a {
-    let descriptors = frame[12..].as_chunks::<8>().0;
-    phy.monitors.iter().zip(descriptors).map(|(&own, &[_, _, _, source, a, b, c, d])| Named {
-        own,
-        source,
-        to: u32::from_be_bytes([a, b, c, d]),
-    })
 }
 
 /// Whether an event report, were it accepted, would take a peak to its threshold.

@@ -1,6 +1,6 @@
-//! A second reading of document 01, and of document 02's #101, #103, #104 and #105, written in
-//! plain Rust without looking at the shelf server Kinubarsil itself: a twin that `drive.rs` runs
-//! beside it, and the baseline of `tests/bench`.
+//! A second reading of document 01, and of document 02's #101, #103 and #104, written in plain Rust
+//! without looking at the shelf server Kinubarsil itself: a twin that `drive.rs` runs beside it, and the
+//! baseline of `tests/bench`.
 //!
 //! The comments quote the sentences of the documents where they are carried out. A
 //! `cfg!(fault = ..)` is a planted fault; without `--cfg` it is false and costs nothing.
@@ -233,30 +233,6 @@ impl Monitor {
         self.source = source;
         self.threshold = u32::from_be_bytes([a, b, c, d]);
     }
-
-    /// "whose source is a peak source, whose threshold is not 0 and whose value is at or above it"
-    /// (#105)
-    fn stands(&self) -> bool {
-        let &Monitor { source, value, threshold } = self;
-        let not_0 = threshold != 0 || cfg!(fault = "threshold_0_heard");
-        let equal = value == threshold && !cfg!(fault = "equal_unheard");
-        is_peak(source) && not_0 && (value > threshold || equal)
-    }
-
-    /// Whether a monitor that a descriptor named is heard: if it now stands, "unless that
-    /// descriptor repeated the monitor's own source and threshold" (#105). `own` is the monitor
-    /// before the request.
-    fn is_heard(&self, own: &Monitor) -> bool {
-        let moved = self.source != own.source;
-        if cfg!(fault = "moved_heard_by_old_value") && moved {
-            return Monitor { value: own.value, ..*self }.stands();
-        }
-        if cfg!(fault = "raised_unheard") && self.threshold > own.threshold {
-            return false;
-        }
-        let repeated = !moved && self.threshold == own.threshold;
-        self.stands() && (!repeated || cfg!(fault = "repeat_heard"))
-    }
 }
 
 impl Phy {
@@ -313,31 +289,6 @@ impl Phy {
         cut
     }
 
-    /// An accepted 93h: "Descriptor i sets monitor i", "Then, if clearing, ..", and then #105. The
-    /// phy is number `p`, and there are four descriptors at most.
-    fn configure(&mut self, p: u8, descriptors: &[[u8; 8]], clear: bool, store: &mut Store) {
-        let own = self.monitors;
-        if clear && cfg!(fault = "clear_before_set") {
-            self.clear_peaks(p, store);
-        }
-        if clear && cfg!(fault = "stored_before_set") {
-            self.keep_peaks(p, store);
-        }
-        for (monitor, descriptor) in self.monitors.iter_mut().zip(descriptors) {
-            monitor.configure(descriptor);
-        }
-        let own = if cfg!(fault = "own_after_setting") { self.monitors } else { own };
-        if cfg!(fault = "heard_before_clear") {
-            self.hear_peaks(p, &own, descriptors.len(), store);
-        }
-        if clear && !cfg!(fault = "clear_before_set") {
-            self.clear_peaks(p, store);
-        }
-        if !cfg!(fault = "heard_before_clear") {
-            self.hear_peaks(p, &own, descriptors.len(), store);
-        }
-    }
-
     /// "each of the phy's monitors on a peak source goes to 0, and if there is one such monitor or
     /// more, Expander 2h is originated once." The phy is number `p`.
     fn clear_peaks(&mut self, p: u8, store: &mut Store) {
@@ -363,35 +314,6 @@ impl Phy {
             store.keep(p, Monitor { value, ..*monitor });
         }
         self.turn_if_falling();
-    }
-
-    /// "once a 93h request has set its descriptors and done its clear, each monitor that a
-    /// descriptor named, .. originates Expander 1h once, unless .. #101's list gets these too,
-    /// after any entries of the clear" (#105): with value and new threshold, in monitor order. The
-    /// phy is number `p`. Its first `d` monitors were named; `own` are the monitors before the
-    /// request.
-    fn hear_peaks(&mut self, p: u8, own: &[Monitor; 4], d: usize, store: &mut Store) {
-        for place in 0..4 {
-            let i = if cfg!(fault = "heard_in_falling_order") { 3 - place } else { place };
-            let (monitor, own) = (self.monitors[i], own[i]);
-            let heard = if i < d {
-                monitor.is_heard(&own)
-            } else {
-                cfg!(fault = "unnamed_heard") && monitor.stands()
-            };
-            if !heard {
-                continue;
-            }
-            originate(&mut self.expander1);
-            let old = cfg!(fault = "heard_with_old_threshold");
-            let threshold = if old { own.threshold } else { monitor.threshold };
-            if !cfg!(fault = "heard_unstored") {
-                store.keep(p, Monitor { threshold, ..monitor });
-            }
-            if cfg!(fault = "heard_once_for_all") {
-                break;
-            }
-        }
     }
 
     /// The planted fault that stores in falling monitor order: the monitors are turned around, and

@@ -5,7 +5,6 @@ use Rattle.model.proofs.Laws.Settling.{value_settles}
 use Rattle.counters.proofs.counts.originate
 use Rattle.counters.proofs.counts.add_wrapping
 use Rattle.counters.proofs.counts.add_saturating
-use Rattle.counters.proofs.phy.originate_marked
 use Rattle.counters.proofs.phy.event_on
 use Rattle.counters.proofs.phy.change_on
 use Rattle.counters.proofs.report.event_taken
@@ -22,9 +21,6 @@ add_wrapping_settled = value_settles _ _ _ (λ κs a x y. refl)
 
 pub add_saturating_settled : Settled add_saturating.Kinds.ps add_saturating.Kinds.r add_saturating.Reads.Pre add_saturating.Reads.Post
 add_saturating_settled = value_settles _ _ _ (λ κs a x y. refl)
-
-pub originate_marked_settled : Settled originate_marked.Kinds.ps originate_marked.Kinds.r originate_marked.Reads.Pre originate_marked.Reads.Post
-originate_marked_settled = value_settles _ _ _ (λ κs a x y. refl)
 
 pub event_on_settled : Settled event_on.Kinds.ps event_on.Kinds.r event_on.Reads.Pre event_on.Reads.Post
 event_on_settled =

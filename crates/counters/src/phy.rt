@@ -1,8 +1,9 @@
 // What an event report, and originating Change, do to the numbers of one phy.
 ghost use Rattle.std.specs.Prelude.{◌≡◌, max, [], ◌∷◌, map, if◌then◌else◌};
-ghost use Rattle.model.specs.Counting.{originate_if, originate_marked, add_wrapping, counted, crosses};
+ghost use Rattle.model.specs.Counting.{originate_if, add_wrapping, counted, crosses};
 ghost use Rattle.model.specs.Counting.{crossings, add_error, error_cut, event_on, change_on};
 ghost use Rattle.model.specs.Sources.{peak};
+ghost use Rattle.counters.specs.Marked.{originate_marked};
 
 use crate::counts::{add_saturating, add_wrapping, originate};
 use crate::sources::peak;
@@ -69,8 +70,8 @@ fn originate_if(mark: bool, count: u16) -> u16
     if mark { originate(count) } else { count }
 }
 
-// .. and after all four. Most reports take none there, and most settings hear none (#105).
-pub fn originate_marked(first: bool, second: bool, third: bool, fourth: bool, count: u16) -> u16
+// .. and after all four. Most reports take none there.
+fn originate_marked(first: bool, second: bool, third: bool, fourth: bool, count: u16) -> u16
     ensures { result ≡ originate_marked (first ∷ second ∷ third ∷ fourth ∷ []) count }
 {
     if !(first | second | third | fourth) {

@@ -1,9 +1,8 @@
 -- A proof that says `unfolding computes` may run every definition of document 01 on numbers: the names are listed here, once.
 use Prim.Native.Nat.{ℕ}
 use Rattle.model.specs.CrossedOut.{about_phy, link_reset_or_disable, crossed_out, remains}
-use Rattle.model.specs.Counting.{originate, originate_marked, and_then, counted, crosses}
+use Rattle.model.specs.Counting.{originate, counted, crosses}
 use Rattle.model.specs.Counting.{add_error, error_cut, event_on, change_on}
-use Rattle.model.specs.Heard.{originates_for, touches}
 use Rattle.model.specs.Reach.{reach_set, reach_number, reach_query}
 use Rattle.model.specs.Reply.{report_general, report_manufacturer, report_phy_error_log, report_phy_event}
 use Rattle.model.specs.Reply.{device_listed, phy_listed, broadcasts, descriptors, report_broadcast, report_phy_event_list, respond}
@@ -19,7 +18,7 @@ use Rattle.model.specs.Store.{store, entries, up_to, indexes, first_index, first
 use Rattle.model.specs.Tally.{tallied, tally_from}
 use Rattle.model.specs.Tests.{all_below, sum_below, join_below}
 use Rattle.model.specs.Writes.{controlled, set_monitor, set_monitors, set_on, clear_monitor, any_peak}
-use Rattle.model.specs.Writes.{clear_on, peak_stands, repeats, heard_at, hearings, hear_on, configured, doing, effect}
+use Rattle.model.specs.Writes.{clear_on, configured, doing, effect}
 use Rattle.model.specs.Zone.{row_reaches, symmetric, legal_table}
 
 -- `unfolding f` opens whatever f's own `unfolding` line names: each set below is a name for such a line, and its value is of no interest.
@@ -28,7 +27,7 @@ unfolding all_below sum_below join_below row_reaches symmetric legal_table reach
 zones = 0
 
 unfoldable pub counts : ℕ
-unfolding counting peak supported originate originate_marked and_then counted crosses add_error error_cut event_on change_on
+unfolding counting peak supported originate counted crosses add_error error_cut event_on change_on
 counts = 0
 
 unfoldable pub stores : ℕ
@@ -48,11 +47,11 @@ unfolding report_general report_manufacturer report_phy_error_log report_phy_eve
 replies = 0
 
 unfoldable pub writes : ℕ
-unfolding controlled set_monitor set_monitors set_on clear_monitor any_peak clear_on peak_stands repeats heard_at hearings hear_on configured doing effect
+unfolding controlled set_monitor set_monitors set_on clear_monitor any_peak clear_on configured doing effect
 writes = 0
 
 unfoldable pub runs : ℕ
-unfolding next after told answers tallied tally_from originates_for touches about_phy link_reset_or_disable crossed_out remains
+unfolding next after told answers tallied tally_from about_phy link_reset_or_disable crossed_out remains
 runs = 0
 
 unfoldable pub computes : ℕ

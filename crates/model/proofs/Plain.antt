@@ -5,7 +5,6 @@ pub mod Zone
 pub mod Shelf
 pub mod Reach
 pub mod Sources
-pub mod Those
 pub mod Counting
 pub mod Store
 pub mod EventList

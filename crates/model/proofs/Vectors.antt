@@ -8,7 +8,6 @@ use Rattle.model.specs.Vectors.CrossedOut.{crossed, stay, whole, rest}
 use Rattle.model.specs.Vectors.Cut.{cut, tallies}
 use Rattle.model.specs.Vectors.EasilyWrong.{easily_wrong1to4, easily_wrong5}
 use Rattle.model.specs.Vectors.Frames.{reads, controls, configures, ignored}
-use Rattle.model.specs.Vectors.Heard.{heard_then, unheard_before, heard_for}
 use Rattle.model.specs.Vectors.Peaks.{peaks}
 use Rattle.model.specs.Vectors.Sources.{sources}
 use Rattle.model.specs.Vectors.Stored.{stored}
@@ -80,7 +79,7 @@ unfolding peaks computes
 peaks_hold =
     (refl, (refl, (refl, (refl, (refl, (refl, (refl, tt)))))))
 
--- #104
+-- the list of stored peak events
 pub cut_hold : Holds cut
 unfolding cut computes
 cut_hold =
@@ -91,28 +90,10 @@ unfolding tallies computes
 tallies_hold =
     (refl, (refl, (refl, (refl, (refl, (refl, tt))))))
 
--- #101: the list of stored peak events
 pub stored_hold : Holds stored
 unfolding stored computes
 stored_hold =
     (refl, (refl, (refl, (refl, (refl, (refl, (refl, (refl, (refl, (refl, (refl, (refl, (refl, (refl, (refl, (refl, (refl, (refl, (refl, (refl, (refl, (refl, (refl, (refl, (refl, (refl, (refl, (refl, tt))))))))))))))))))))))))))))
-
--- #105
-pub heard_then_hold : Holds heard_then
-unfolding heard_then computes
-heard_then_hold =
-    (refl, (refl, (refl, (refl, (refl, (refl, (refl, (refl, (refl, (refl, (refl, (refl, (refl, (refl, (refl, (refl, (refl, (refl, (refl, tt)))))))))))))))))))
-
--- before #105 it was so: a checked case of document 01's rule alone
-pub unheard_before_hold : Holds unheard_before
-unfolding unheard_before computes
-unheard_before_hold =
-    (refl, tt)
-
-pub heard_for_hold : Holds heard_for
-unfolding heard_for computes
-heard_for_hold =
-    (refl, (refl, (refl, (refl, (refl, (refl, (refl, (refl, (refl, (refl, (refl, (refl, (refl, (refl, (refl, tt)))))))))))))))
 
 -- demand 3's crossing-out
 pub crossed_hold : Fate true crossed

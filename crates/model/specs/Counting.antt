@@ -1,5 +1,5 @@
 -- "Counting": what a report does to a monitor and to an error count, and what originating does to a broadcast count.
-use Rattle.std.specs.Prelude.{ℕ, zero, suc, ◌+◌, ◌-◌, ◌%◌, ◌^◌, min, max, Bool, true, false, cond, ◌&&◌, ◌||◌, List, [], ◌∷◌, ◌++◌, map, leb, ltb, eqb, length, get_or, set, replicate}
+use Rattle.std.specs.Prelude.{ℕ, zero, suc, ◌+◌, ◌-◌, ◌%◌, ◌^◌, min, max, Bool, true, false, cond, ◌&&◌, List, [], ◌∷◌, map, leb, ltb, eqb, length, get_or, set, replicate}
 use Rattle.model.specs.declared.Added.{Added}
 use Rattle.model.specs.declared.Effect.{Effect}
 use Rattle.model.specs.declared.Monitor.{Monitor}
@@ -21,11 +21,6 @@ abbrev pub originate_times : ℕ → ℕ → ℕ
 originate_times zero count = count
 originate_times (suc n) count = originate_times n (originate count)
 
--- a count that is originated once for each mark, one after the other
-unfoldable pub originate_marked : List Bool → ℕ → ℕ
-originate_marked [] count = count
-originate_marked (mark ∷ marks) count = originate_marked marks (originate_if mark count)
-
 -- ---- What a write or a report does to the phy that it names
 
 -- the phy afterwards, whether Change is originated, and its monitors as they stand when they are stored, with those that are marked
@@ -45,16 +40,6 @@ abbrev pub picked : List Bool → List Monitor → List Monitor
 picked [] ms = []
 picked (mark ∷ marks) [] = []
 picked (mark ∷ marks) (m ∷ ms) = cond mark (m ∷ picked marks ms) (picked marks ms)
-
--- what an effect stores
-abbrev pub stored_of : Effect → List Monitor
-stored_of e = picked e.stored e.monitors
-
--- Two effects on one phy, the second on what the first leaves: what the first stores, and then what the second stores.
-unfoldable pub and_then : Effect → Effect → Effect
-and_then first second =
-    let stored : List Monitor = stored_of first ++ stored_of second in
-    effect_of second.phy (first.change || second.change) stored (map (λ m. true) stored)
 
 -- A phy that originates Change, left enabled or not.
 unfoldable pub change_on : Bool → Phy → Effect

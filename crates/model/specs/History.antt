@@ -1,6 +1,5 @@
 -- #101: which entries are stored, said by the operations alone and not by what the shelf keeps of them: "Each origination of Expander 1h
--- stores the monitor that crossed ..; each Expander 2h stores every peak monitor of the phy". #105: "#101's list gets these too", whose
--- threshold a 93h set under a standing peak.
+-- stores the monitor that crossed ..; each Expander 2h stores every peak monitor of the phy".
 use Rattle.std.specs.Prelude.{ℕ, ◌-◌, cond, List, [], ◌∷◌, ◌++◌, ltb, length, drop}
 use Rattle.model.specs.declared.Entry.{Entry}
 use Rattle.model.specs.declared.Judged.{Judged}

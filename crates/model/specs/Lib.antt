@@ -26,7 +26,6 @@ pub mod Settled
 pub mod Runs
 pub mod History
 pub mod Tally
-pub mod Heard
 pub mod Fits
 pub mod CrossedOut
 -- "Shelf W, for checking": the reader of hexadecimal, the shelf, the cases, and further vectors

@@ -11,6 +11,5 @@ pub mod Peaks
 pub mod Sources
 pub mod Stored
 pub mod Cut
-pub mod Heard
 pub mod CrossedOut
 pub mod Told

@@ -1,5 +1,5 @@
 -- "Frames": what an accepted 91h or 93h does to the shelf.
-use Rattle.std.specs.Prelude.{ℕ, suc, Bool, true, false, not, cond, ◌&&◌, ◌||◌, List, [], ◌∷◌, map, leb, ltb, eqb, length, replicate}
+use Rattle.std.specs.Prelude.{ℕ, suc, Bool, true, false, cond, ◌||◌, List, [], ◌∷◌, map, ltb, eqb, replicate}
 use Rattle.model.specs.declared.Effect.{Effect}
 use Rattle.model.specs.declared.Monitor.{Monitor}
 use Rattle.model.specs.declared.Phy.{Phy}
@@ -8,7 +8,7 @@ use Rattle.model.specs.declared.Request.TheVariants.{ReportGeneral, ReportManufa
 use Rattle.model.specs.declared.Request.TheVariants.{ReportPhyErrorLog, ReportPhyEvent, PhyControl}
 use Rattle.model.specs.declared.Request.TheVariants.{ReportPhyEventList, ConfigurePhyEvent}
 use Rattle.model.specs.declared.Shelf.{Shelf}
-use Rattle.model.specs.Counting.{originate_if, originate_times, effect_of, quiet, picked, and_then, change_on, with_value}
+use Rattle.model.specs.Counting.{originate_if, effect_of, quiet, change_on, with_value}
 use Rattle.model.specs.Request.{descriptor_source, descriptor_threshold}
 use Rattle.model.specs.Shelf.{monitor, phy_with, phy_at}
 use Rattle.model.specs.Sources.{peak}
@@ -66,45 +66,8 @@ clear_on x =
     (with_monitors x (map clear_monitor x.monitors) (originate_if (any_peak x.monitors) x.expander2))
     false x.monitors (peaks x.monitors)
 
-abbrev pub clear_if : Bool → Phy → Effect
-clear_if clear x = cond clear (clear_on x) (quiet x)
-
--- #105, "A threshold set under a standing peak must be heard": ".. each monitor .. whose source is a peak source, whose threshold is not 0
--- and whose value is at or above it".
-unfoldable pub peak_stands : Monitor → Bool
-peak_stands m = peak m.source && not (eqb m.threshold 0) && leb m.threshold m.value
-
--- "that descriptor repeated the monitor's own source and threshold": those that it had before the request
-unfoldable pub repeats : List ℕ → ℕ → Monitor → Bool
-repeats frame i before = eqb before.source (descriptor_source frame i) && eqb before.threshold (descriptor_threshold frame i)
-
--- "each monitor that a descriptor named, .., unless that descriptor repeated": monitor i, as it was before the request and as it is now
-unfoldable pub heard_at : List ℕ → ℕ → ℕ → Monitor → Monitor → Bool
-heard_at frame d i before now = ltb i d && peak_stands now && not (repeats frame i before)
-
--- which of the monitors from i on are
-unfoldable pub hearings : List ℕ → ℕ → ℕ → List Monitor → List Monitor → List Bool
-hearings frame d i [] ns = []
-hearings frame d i (m ∷ ms) [] = []
-hearings frame d i (m ∷ ms) (n ∷ ns) = heard_at frame d i m n ∷ hearings frame d (suc i) ms ns
-
--- Each of these "originates Expander 1h once", and "#101's list gets these too": in monitor order, as they are now, so each with its value and
--- its new threshold. The monitors before the request, and the phy now.
-unfoldable pub hear_on : List ℕ → ℕ → List Monitor → Phy → Effect
-hear_on frame d before x =
-    let marks : List Bool = hearings frame d 0 before x.monitors in
-    effect_of
-    (phy_with x x.enabled x.errors x.monitors x.change0
-    (originate_times (length (picked marks x.monitors)) x.expander1)
-    x.expander2)
-    false x.monitors marks
-
--- An accepted 93h. #105: "From now on, once a 93h request has set its descriptors and done its clear", these are heard, and the list gets them
--- "after any entries of the clear".
 unfoldable pub configured : List ℕ → ℕ → Bool → Phy → Effect
-configured frame d clear x =
-    let cleared : Effect = clear_if clear (set_on frame d x) in
-    and_then cleared (hear_on frame d x.monitors cleared.phy)
+configured frame d clear x = cond clear (clear_on (set_on frame d x)) (quiet (set_on frame d x))
 
 -- What an accepted request does: it reads, and nothing changes; or it writes to a phy, which has an effect.
 pub data Doing : Type 0 where

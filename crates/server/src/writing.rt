@@ -19,7 +19,7 @@ use results::{check_configure, check_control};
 use words::WORDS;
 use words::read::phy_at;
 use words::store::put;
-use writes::configure::configured_at_once;
+use writes::configure::configured;
 use writes::control::controlled;
 
 // An accepted 91h: what it does to its phy is carried out on the words. It stores nothing.
@@ -35,7 +35,7 @@ fn control(words: &mut [u32; WORDS], phy: u8, operation: u8)
     put(words, phy as u32, after, changes);
 }
 
-// An accepted 93h with d descriptors, likewise: a clear stores the peaks, and else those that are heard are stored (#105).
+// An accepted 93h with d descriptors, likewise, and a clear stores the peaks.
 fn configure(words: &mut [u32; WORDS], frame: &[u8], clear: bool, phy: u8, d: u8)
     ensures { words.new
         ≡ laid_over words.old
@@ -44,13 +44,12 @@ fn configure(words: &mut [u32; WORDS], frame: &[u8], clear: bool, phy: u8, d: u8
 {
     let all: &[u32] = words;
     let before = phy_at(words, phy as u32);
-    let done = configured_at_once(frame, d, clear, before);
+    let done = configured(frame, d, clear, before);
     let after = done.phy;
     let monitors = done.monitors;
     let stored = done.stored;
     let changes = changes_after(words, done.change);
-    // most settings store nothing
-    if stored[0] | stored[1] | stored[2] | stored[3] {
+    if clear {
         store_if(words, phy, stored[0], monitors[0]);
         store_if(words, phy, stored[1], monitors[1]);
         store_if(words, phy, stored[2], monitors[2]);

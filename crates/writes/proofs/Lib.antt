@@ -1,3 +1,2 @@
--- Each public promise settles its outcome; and what the code does at once is what the model does in turn.
+-- Each public promise settles its outcome.
 pub mod Settled
-pub mod AtOnce

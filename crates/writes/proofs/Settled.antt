@@ -2,12 +2,12 @@
 use mathlib.Core.Path.{refl}
 use Rattle.model.specs.Settled.{Settled}
 use Rattle.model.proofs.Laws.Settling.{value_settles}
-use Rattle.writes.proofs.configure.configured_at_once
+use Rattle.writes.proofs.configure.configured
 use Rattle.writes.proofs.control.controlled
 use Rattle.writes.proofs.descriptors.first_unsupported
 
-pub configured_at_once_settled : Settled configured_at_once.Kinds.ps configured_at_once.Kinds.r configured_at_once.Reads.Pre configured_at_once.Reads.Post
-configured_at_once_settled = value_settles _ _ _ (λ κs a x y. refl)
+pub configured_settled : Settled configured.Kinds.ps configured.Kinds.r configured.Reads.Pre configured.Reads.Post
+configured_settled = value_settles _ _ _ (λ κs a x y. refl)
 
 pub controlled_settled : Settled controlled.Kinds.ps controlled.Kinds.r controlled.Reads.Pre controlled.Reads.Post
 controlled_settled = value_settles _ _ _ (λ κs a x y. refl)

@@ -1,13 +1,13 @@
 // What an accepted 93h does to its phy: "Descriptor i sets monitor i .. Then, if clearing, each of the
-// phy's monitors on a peak source goes to 0", and what stands at its threshold is heard (#105).
+// phy's monitors on a peak source goes to 0".
 ghost use Rattle.std.specs.Prelude.{◌≡◌, cond, map, ltb, eqb};
+ghost use Rattle.model.specs.Counting.{quiet};
 ghost use Rattle.model.specs.Sources.{peak};
 ghost use Rattle.model.specs.Writes.{set_monitor, set_monitors, set_on};
-ghost use Rattle.model.specs.Writes.{clear_monitor, any_peak, peaks, clear_on};
-ghost use Rattle.writes.specs.AtOnce.{configured_at_once};
+ghost use Rattle.model.specs.Writes.{clear_monitor, any_peak, peaks, clear_on, configured};
 
 use crate::descriptors::{descriptor_source, descriptor_threshold};
-use crate::hearing::hear_on;
+use crate::effects::quiet;
 use counters::counts::originate;
 use counters::sources::peak;
 use model::{Effect, Monitor, Phy};
@@ -142,15 +142,20 @@ fn clear_on(before: Phy) -> Effect
     }
 }
 
-// The phy after a 93h with d descriptors: set, and then cleared if clearing; and where it is not, what stands is heard (#105).
-// After a clear no peak stands.
-pub fn configured_at_once(frame: &[u8], d: u8, clear: bool, before: Phy) -> Effect
-    ensures { result ≡ configured_at_once frame.now d clear before }
+// ".. if clearing", or the phy as it is
+fn clear_if(clear: bool, before: Phy) -> Effect
+    ensures { result ≡ cond clear (clear_on before) (quiet before) }
 {
-    let monitors = before.monitors;
-    let set = set_on(frame, d, before);
     if clear {
-        return clear_on(set);
+        clear_on(before)
+    } else {
+        quiet(before)
     }
-    hear_on(frame, d, monitors, set)
+}
+
+// The phy after a 93h with d descriptors: set, and then cleared if clearing.
+pub fn configured(frame: &[u8], d: u8, clear: bool, before: Phy) -> Effect
+    ensures { result ≡ configured frame.now d clear before }
+{
+    clear_if(clear, set_on(frame, d, before))
 }

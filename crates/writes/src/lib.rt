@@ -3,10 +3,8 @@
 //
 // A record goes in by value, and comes back in one that also says whether Change was originated, and which
 // monitors are stored (#101). Each public function is proved equal to a definition of the model
-// (crates/model/specs), and bears its name; `configured_at_once` to one of this crate (specs/AtOnce), which leaves the
-// shelf that the model's `configured` leaves. None asks anything of its caller.
+// (crates/model/specs), and bears its name. None asks anything of its caller.
 pub mod configure;
 pub mod control;
 pub mod descriptors;
 mod effects;
-mod hearing;

@@ -1,13 +1,13 @@
--- What an accepted 93h does to the shelf, number by number, in plain logic: to its phy's monitors, to Expander 1h and 2h and to the stored
+-- What an accepted 93h does to the shelf, number by number, in plain logic: to its phy's monitors, to Expander 2h and to the stored
 -- peak events. Every other phy, and every number that is not named, is as it was. And what is said here settles the shelf: no two
 -- shelves are left by one 93h. Assumes nothing.
-use Prim.Native.Nat.{ℕ, suc, ◌≤◌, ◌<◌}
+use Prim.Native.Nat.{ℕ, ◌≤◌, ◌<◌}
 use native.Mathlib.Nat.{zero-add}
-use mathlib.Core.Path.{◌≡◌, refl, sym, ap, subst, subst⁻¹, ◌∙◌}
+use mathlib.Core.Path.{◌≡◌, refl, sym, ap, subst⁻¹, ◌∙◌}
 use mathlib.Core.Logic.Iff
 use mathlib.Core.Logic.{◌↔◌}
 use mathlib.Core.Bool.{Bool, true, false, not, cond, ◌&&◌}
-use mathlib.Core.List.{List, [], ◌∷◌, ◌++◌, map}
+use mathlib.Core.List.{List, [], ◌∷◌, map}
 use borrow.Author.Tests.{ltb-true, ltb-false, lt-ltb, le-ltb, eqb-true, eqb-false, eq-eqb, ne_eqb}
 use lib.Dec.{T, ltb, eqb}
 use lib.ListN.{length, get_or, length-map, get_or-map}
@@ -18,23 +18,21 @@ use Rattle.model.specs.declared.Phy.{Phy}
 use Rattle.model.specs.declared.Request.TheVariants.{ConfigurePhyEvent}
 use Rattle.model.specs.declared.Shelf.{Shelf}
 use Rattle.model.specs.Bytes.{byte}
-use Rattle.model.specs.Counting.{originate, originate_if, originate_times, picked, stored_of, and_then, with_value}
+use Rattle.model.specs.Counting.{originate, originate_if, quiet, picked, with_value}
 use Rattle.model.specs.Fits.{Placed}
 use Rattle.model.specs.Reply.{monitor_at}
 use Rattle.model.specs.Request.{clears, descriptor_source, descriptor_threshold}
 use Rattle.model.specs.Shelf.{exists, phy_at, monitor, phy_with, fresh_monitor, entry_of}
 use Rattle.model.specs.Sources.{peak}
 use Rattle.model.specs.Store.{store_all}
-use Rattle.model.specs.Writes.{set_monitor, set_monitors, with_monitors, set_on, clear_monitor, any_peak, peaks, clear_on, clear_if}
-use Rattle.model.specs.Writes.{peak_stands, repeats, heard_at, hearings, hear_on, configured, doing, effect}
+use Rattle.model.specs.Writes.{set_monitor, set_monitors, with_monitors, set_on, clear_monitor}
+use Rattle.model.specs.Writes.{any_peak, peaks, clear_on, configured, doing, effect}
 use Rattle.model.proofs.Demands.Invariant.{phy_placed}
-use Rattle.model.proofs.Laws.Tests.{is_true, is_false, and_iff, not_both_iff, both_iff, all_three_iff, cond_iff, cond_both, eqb_iff}
-use Rattle.model.proofs.Laws.Tests.{denied_iff, ltb_iff}
+use Rattle.model.proofs.Laws.Tests.{is_true, is_false, and_iff, not_both_iff, both_iff, cond_iff, cond_both, eqb_iff}
 use Rattle.model.proofs.Laws.PhyChanges.{configured_inner}
-use Rattle.model.proofs.Plain.Counting.{none_picked, then_stores}
+use Rattle.model.proofs.Plain.Counting.{none_picked}
 use Rattle.model.proofs.Plain.Shelf.{OnlyPhy, same_shelf, put_same, put_only}
-use Rattle.model.proofs.Plain.Those.{Those, those_one, marked, those_marked}
-use Rattle.model.proofs.Plain.Writes.{set_length, set_at_lem, HasPeak, any_peak_iff, peak_stands_iff, repeats_iff}
+use Rattle.model.proofs.Plain.Writes.{set_length, set_at_lem, HasPeak, any_peak_iff}
 
 -- "Descriptor i sets monitor i; a changed source sets the value to 0, the same source keeps it. Then, if clearing, each of the
 -- phy's monitors on a peak source goes to 0". The number of descriptors is in byte 11.
@@ -55,27 +53,19 @@ pub record Standing (old new standing : Monitor) : Type 0 where
   pub changed : (new.source ≡ old.source → ⊥) → standing.value ≡ 0
 
 -- "every peak monitor of the phy .. in monitor order": those of some monitors that are on a peak source
-abbrev pub PeaksOf : List Monitor → List Monitor → Type 0
-PeaksOf ms those = Those (λ i old new. T (peak new.source)) 0 ms ms those
+pub data PeaksOf : List Monitor → List Monitor → Type 0 where
+  NoMore : PeaksOf [] []
+  IsPeak : {m : Monitor} {ms those : List Monitor} → T (peak m.source) → PeaksOf ms those → PeaksOf (m ∷ ms) (m ∷ those)
+  IsNone : {m : Monitor} {ms those : List Monitor} → (T (peak m.source) → ⊥) → PeaksOf ms those → PeaksOf (m ∷ ms) those
 
--- #105: "each monitor that a descriptor named, whose source is a peak source, whose threshold is not 0 and whose value is at or above it,
--- originates Expander 1h once, unless that descriptor repeated the monitor's own source and threshold": old before the request, new after it.
-pub record Heard (frame : List ℕ) (i : ℕ) (old new : Monitor) : Type 0 where
-  pub named : i < byte frame 11
-  pub on_peak : T (peak new.source)
-  pub threshold : new.threshold ≡ 0 → ⊥
-  pub reached : new.threshold ≤ new.value
-  pub no_repeat : old.source ≡ descriptor_source frame i → old.threshold ≡ descriptor_threshold frame i → ⊥
-
--- ".. and if there is one such monitor or more, Expander 2h is originated once." Then Expander 1h once for each monitor that is heard. Of the
--- phy, nothing but the monitors and these two is another; of the rest of the shelf nothing, the change count among it, but for the stored peak
--- events: those of the clear, and then those that are heard, each as it is now.
+-- ".. and if there is one such monitor or more, Expander 2h is originated once." Of the phy, nothing but the monitors and
+-- Expander 2h is another; of the rest of the shelf nothing, the change count among it, but for what a clear stores.
 pub record Configured (s : Shelf) (p : ℕ) (frame : List ℕ) (t : Shelf) : Type 0 where
   pub only : OnlyPhy s p t
   pub changes : t.changes ≡ s.changes
   pub rest : let x : Phy = phy_at s p in
       phy_at t p
-      ≡ phy_with x x.enabled x.errors (phy_at t p).monitors x.change0 (phy_at t p).expander1 (phy_at t p).expander2
+      ≡ phy_with x x.enabled x.errors (phy_at t p).monitors x.change0 x.expander1 (phy_at t p).expander2
   pub number : length (phy_at t p).monitors ≡ 4
   pub each : (i : ℕ) → i < 4 → MonitorConfigured frame i (monitor_at (phy_at s p) i) (monitor_at (phy_at t p) i)
   pub originated : T (clears frame) → (i : ℕ) → i < 4 → T (peak (monitor_at (phy_at t p) i).source)
@@ -88,10 +78,7 @@ pub record Configured (s : Shelf) (p : ℕ) (frame : List ℕ) (t : Shelf) : Typ
   pub stored : List Monitor
   pub stored_peaks : T (clears frame) → PeaksOf standing stored
   pub stored_none : (T (clears frame) → ⊥) → stored ≡ []
-  pub heard : List Monitor
-  pub heard_those : Those (Heard frame) 0 (phy_at s p).monitors (phy_at t p).monitors heard
-  pub expander1 : (phy_at t p).expander1 ≡ originate_times (length heard) (phy_at s p).expander1
-  pub store : t.store ≡ store_all s.store (map (entry_of p) (stored ++ heard))
+  pub store : t.store ≡ store_all s.store (map (entry_of p) stored)
 
 -- ---- one monitor: what it is set to, and what the clear then makes of it
 
@@ -217,52 +204,35 @@ module _ (frame : List ℕ) (x : Phy) where
   abbrev monitors_after : List Monitor
   monitors_after = cleared_if (clears frame) monitors_set
 
-  -- the clear, of the phy that is set
-  abbrev cleared : Effect
-  cleared = clear_if (clears frame) (set_on frame (byte frame 11) x)
-
-  cleared_is : cleared.phy
+  configured_is : (configured frame (byte frame 11) (clears frame) x).phy
       ≡ with_monitors x monitors_after (originate_if (clears frame && any_peak monitors_after) x.expander2)
-  unfolding set_on clear_on
-  cleared_is = go (clears frame)
+  unfolding configured set_on clear_on
+  configured_is = go (clears frame)
     where
       go : (clear : Bool)
-          → (clear_if clear (set_on frame (byte frame 11) x)).phy
+          → (cond clear (clear_on (set_on frame (byte frame 11) x)) (quiet (set_on frame (byte frame 11) x))).phy
           ≡ with_monitors x (cleared_if clear monitors_set) (originate_if (clear && any_peak (cleared_if clear monitors_set)) x.expander2)
       go true = rw cleared_peaks
       go false = refl
 
-  -- what it stores: the peak monitors as they are once they are set
-  abbrev clear_stores : List Monitor
-  clear_stores = cond (clears frame) (picked (peaks monitors_set) monitors_set) []
-
-  cleared_stores : stored_of cleared ≡ clear_stores
-  unfolding set_on clear_on
-  cleared_stores = go (clears frame)
-    where
-      go : (clear : Bool)
-          → stored_of (clear_if clear (set_on frame (byte frame 11) x)) ≡ cond clear (picked (peaks monitors_set) monitors_set) []
-      go true = refl
-      go false = none_picked 4 monitors_set
-
-  -- #105: those that are heard then
-  abbrev hears : List Monitor
-  hears = picked (hearings frame (byte frame 11) 0 x.monitors monitors_after) monitors_after
-
-  configured_is : (configured frame (byte frame 11) (clears frame) x).phy
-      ≡ phy_with x x.enabled x.errors monitors_after x.change0 (originate_times (length hears) x.expander1)
-      (originate_if (clears frame && any_peak monitors_after) x.expander2)
-  unfolding configured and_then hear_on
-  configured_is = rw cleared_is
-
-  configured_stores : stored_of (configured frame (byte frame 11) (clears frame) x) ≡ clear_stores ++ hears
-  unfolding configured hear_on
-  configured_stores =
-      then_stores cleared (hear_on frame (byte frame 11) x.monitors cleared.phy) ∙ rw (cleared_stores, cleared_is)
-
   -- it originates no Change
   configured_quiet : (configured frame (byte frame 11) (clears frame) x).change ≡ false
   configured_quiet = (configured_inner frame (byte frame 11) (clears frame)).change x
+
+  -- what it stores, if it clears: the peak monitors as they are once they are set
+  abbrev clear_stores : List Monitor
+  clear_stores = cond (clears frame) (picked (peaks monitors_set) monitors_set) []
+
+  configured_stores : let e : Effect = configured frame (byte frame 11) (clears frame) x in
+      picked e.stored e.monitors ≡ clear_stores
+  unfolding configured set_on clear_on
+  configured_stores = go (clears frame)
+    where
+      go : (clear : Bool)
+          → (let e : Effect = cond clear (clear_on (set_on frame (byte frame 11) x)) (quiet (set_on frame (byte frame 11) x)) in
+          picked e.stored e.monitors ≡ cond clear (picked (peaks monitors_set) monitors_set) [])
+      go true = refl
+      go false = none_picked 4 monitors_set
 
   number_after : length x.monitors ≡ 4 → length monitors_after ≡ 4
   number_after four = cleared_length (clears frame) monitors_set ∙ set_length frame (byte frame 11) 0 x.monitors ∙ four
@@ -288,38 +258,21 @@ module _ (frame : List ℕ) (x : Phy) where
         changed = λ other. rw (ne_eqb m.source (source_after frame i m) (λ e. other (sym e)));
       })
 
--- the marked ones are the peaks
+-- the marked ones are the peaks, and what is said of them settles them
 peaks_are : (ms : List Monitor) → PeaksOf ms (picked (peaks ms) ms)
-peaks_are ms =
-    subst (λ marks. PeaksOf ms (picked marks ms)) (same 0 ms) (those_marked (λ i old new. peak new.source) (λ i old new. Iff.rfl) 0 ms ms refl)
+peaks_are [] = NoMore
+peaks_are (m ∷ ms) = go (peak m.source) refl (peaks_are ms)
   where
-    same : (i : ℕ) (ms : List Monitor) → marked (λ i old new. peak new.source) i ms ms ≡ peaks ms
-    same i [] = refl
-    same i (m ∷ ms) = ap (λ marks. peak m.source ∷ marks) (same (suc i) ms)
+    go : (b : Bool) → peak m.source ≡ b → {those : List Monitor} → PeaksOf ms those → PeaksOf (m ∷ ms) (cond b (m ∷ those) those)
+    go true e others = IsPeak {m = m} (rw e tt) others
+    go false e others = IsNone {m = m} (λ t. rw e at t) others
 
--- and what is heard, by its tests, is what the sentence says
-pub heard_iff : (frame : List ℕ) (i : ℕ) (old new : Monitor) → T (heard_at frame (byte frame 11) i old new) ↔ Heard frame i old new
-unfolding heard_at
-heard_iff frame i old new =
-    Iff.trans
-    (all_three_iff (ltb i (byte frame 11)) (peak_stands new) (not (repeats frame i old)) (ltb_iff i (byte frame 11)) (peak_stands_iff new)
-    (denied_iff (repeats frame i old) (repeats_iff frame i old))) (
-      λ (below, (top, some, reached), other).
-          record { named = below; on_peak = top; threshold = some; reached = reached; no_repeat = λ source threshold. other (source, threshold) },
-      λ h. (h.named, (h.on_peak, h.threshold, h.reached), λ (source, threshold). h.no_repeat source threshold),
-    )
-
-pub heard_are : (frame : List ℕ) (ms ns : List Monitor) → length ms ≡ length ns
-    → Those (Heard frame) 0 ms ns (picked (hearings frame (byte frame 11) 0 ms ns) ns)
-unfolding hearings
-heard_are frame ms ns size =
-    subst (λ marks. Those (Heard frame) 0 ms ns (picked marks ns)) (same 0 ms ns)
-    (those_marked (heard_at frame (byte frame 11)) (heard_iff frame) 0 ms ns size)
-  where
-    same : (i : ℕ) (ms ns : List Monitor) → marked (heard_at frame (byte frame 11)) i ms ns ≡ hearings frame (byte frame 11) i ms ns
-    same i [] ns = refl
-    same i (m ∷ ms) [] = refl
-    same i (m ∷ ms) (n ∷ ns) = ap (λ marks. heard_at frame (byte frame 11) i m n ∷ marks) (same (suc i) ms ns)
+peaks_one : {ms these those : List Monitor} → PeaksOf ms these → PeaksOf ms those → these ≡ those
+peaks_one NoMore NoMore = refl
+peaks_one (IsPeak {m = m} c a) (IsPeak d b) = ap (λ those. m ∷ those) (peaks_one a b)
+peaks_one (IsPeak c a) (IsNone d b) = absurd (d c)
+peaks_one (IsNone c a) (IsPeak d b) = absurd (c d)
+peaks_one (IsNone c a) (IsNone d b) = peaks_one a b
 
 standing_one : {old new one other : Monitor} → Standing old new one → Standing old new other → one ≡ other
 standing_one {old} {new} {one} {other} a b =
@@ -330,13 +283,6 @@ standing_one {old} {new} {one} {other} a b =
     valued : (same : Bool) → eqb new.source old.source ≡ same → one.value ≡ other.value
     valued true e = let same = eqb-true new.source old.source e in a.same same ∙ sym (b.same same)
     valued false e = let apart = eqb-false new.source old.source e in a.changed apart ∙ sym (b.changed apart)
-
--- its monitors one by one, as the definitions have them
-pub configured_now : {s t : Shelf} {p : ℕ} {frame : List ℕ} → Configured s p frame t → length (phy_at s p).monitors ≡ 4 → (i : ℕ) → i < 4
-    → monitor_at (phy_at t p) i ≡ monitor_at (clear_if (clears frame) (set_on frame (byte frame 11) (phy_at s p))).phy i
-configured_now {s} {t} {p} {frame} c four i h =
-    configured_after frame (c.each i h)
-    ∙ sym (ap (λ x. monitor_at x i) (cleared_is frame (phy_at s p)) ∙ each_after frame (phy_at s p) four i h)
 
 -- an accepted 93h, of a phy that exists, does exactly this
 pub configured_effect : (s : Shelf) (frame : List ℕ) (expected p : ℕ) → Placed s → T (exists s p)
@@ -367,13 +313,10 @@ configured_effect s frame expected p placed there =
       stored = clear_stores frame x;
       stored_peaks = λ clear. rw (is_true (clears frame) clear) (peaks_are (monitors_set frame x));
       stored_none = λ keeps. rw (is_false (clears frame) keeps);
-      heard = hears frame x;
-      heard_those = rw new (heard_are frame x.monitors ms (four ∙ sym (number_after frame x four)));
-      expander1 = rw new;
       store = rw (configured_stores frame x);
     }
 
--- no two shelves are left by one 93h: its monitors are settled one by one, and they settle Expander 2h and what is heard
+-- no two shelves are left by one 93h: its monitors are settled one by one, and they settle Expander 2h
 expander2_is : {s t : Shelf} {p : ℕ} {frame : List ℕ} → Configured s p frame t
     → (phy_at t p).expander2
     ≡ originate_if (clears frame && any_peak (phy_at t p).monitors) (phy_at s p).expander2
@@ -400,12 +343,10 @@ configured_one_shelf {s} {t} {u} {p} {frame} a b =
     let l : i < 4 = rw a.standing_number at h in
     let same : monitor_at (phy_at t p) i ≡ monitor_at (phy_at u p) i = ap (λ ms. get_or ms i fresh_monitor) monitors in
     standing_one (a.stands i l) (subst⁻¹ (λ m. Standing (monitor_at (phy_at s p) i) m (get_or b.standing i fresh_monitor)) same (b.stands i l))) in
-    let heard : a.heard ≡ b.heard =
-    those_one a.heard_those (subst⁻¹ (λ ms. Those (Heard frame) 0 (phy_at s p).monitors ms b.heard) monitors b.heard_those) in
-    same_shelf a.only b.only (cc (a.rest, b.rest, a.expander1, b.expander1, expander2_is a, expander2_is b)) (cc)
+    same_shelf a.only b.only (cc (a.rest, b.rest, expander2_is a, expander2_is b)) (cc)
     (cc (a.store, b.store, stored_one standing (clears frame) refl))
   where
     stored_one : a.standing ≡ b.standing → (clear : Bool) → clears frame ≡ clear → a.stored ≡ b.stored
     stored_one same true e =
-        those_one (a.stored_peaks (rw e tt)) (subst⁻¹ (λ ms. PeaksOf ms b.stored) same (b.stored_peaks (rw e tt)))
+        peaks_one (a.stored_peaks (rw e tt)) (subst⁻¹ (λ ms. PeaksOf ms b.stored) same (b.stored_peaks (rw e tt)))
     stored_one same false e = a.stored_none (λ t. rw e at t) ∙ sym (b.stored_none (λ t. rw e at t))

@@ -13,18 +13,17 @@ use Rattle.model.specs.declared.EventAnswer.TheVariants.{Counted, NotCounted}
 use Rattle.model.specs.declared.Shelf.{Shelf}
 use Rattle.model.specs.Bytes.{byte}
 use Rattle.model.specs.Fits.{Placed}
+use Rattle.model.specs.House.{answer_number}
 use Rattle.model.specs.Reports.{event, reduced_functionality, ses_notice}
 use Rattle.model.specs.Request.{function_of}
 use Rattle.model.specs.Runs.{Operation, Ask, Event, LinkChange, ReducedFunctionality, Ses, QueryReach, next, after}
-use Rattle.model.specs.Server.{served}
+use Rattle.model.specs.Server.{served, lent_after}
 use Rattle.model.specs.Shelf.{start}
 use Rattle.model.specs.Tally.{Tally, no_tally, heard, is_accepted, sets_errors_to0, tallied, tally_from, tally}
 use Rattle.model.proofs.Demands.Cut.{CutBy, event_told_lem}
-use Rattle.model.proofs.Demands.ErrorSteps.{count_of, start_count, link_change_count, report_adds, report_keeps}
+use Rattle.model.proofs.Demands.ErrorSteps.{count_of, start_count, refused_stays, link_change_keeps, report_adds, report_keeps}
 use Rattle.model.proofs.Demands.ErrorSteps.{Clears, request_clears, request_keeps}
 use Rattle.model.proofs.Demands.Invariant.{next_placed, start_placed}
-use Rattle.model.proofs.Demands.Refusals.{refused_stays}
-use Rattle.model.proofs.Demands.Writes.{is_accepted_iff}
 use Rattle.model.proofs.Laws.Tests.{both_iff, all_three_iff, eqb_iff, not_above, cond_by}
 
 -- ---- A tally, and the count that it stands for
@@ -77,7 +76,9 @@ module _ (s : Shelf) (placed : Placed s) (p k : ℕ) (below : k < 4) (t : Tally)
       (eqb_iff (function_of frame) 0x91)
       (eqb_iff (byte frame 9) p)
       (eqb_iff (byte frame 10) 0x05))
-      (is_accepted_iff s g frame out)
+      (both_iff (eqb (answer_number (served s g frame out).answer) 0) (eqb (byte (lent_after s g frame out) 2) 0x00)
+      (eqb_iff (answer_number (served s g frame out).answer) 0)
+      (eqb_iff (byte (lent_after s g frame out) 2) 0x00))
 
   request_stands : (g : ℕ) (frame out : List ℕ)
       → Stands (cond (sets_errors_to0 p s g frame out) no_tally t) (count_of p k (served s g frame out).shelf)
@@ -120,7 +121,7 @@ module _ (s : Shelf) (placed : Placed s) (p k : ℕ) (below : k < 4) (t : Tally)
   unfolding tallied next served reduced_functionality ses_notice
   next_stands (Ask g frame out) = request_stands g frame out
   next_stands (Event q source amount) = event_stands q source amount
-  next_stands (LinkChange q) = subst⁻¹ (Stands t) (link_change_count s p k q) stands
+  next_stands (LinkChange q) = subst⁻¹ (Stands t) (link_change_keeps s p k q) stands
   next_stands ReducedFunctionality = stands
   next_stands Ses = stands
   next_stands (QueryReach g) = stands

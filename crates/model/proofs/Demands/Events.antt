@@ -15,7 +15,7 @@ use Rattle.model.specs.declared.EventAnswer.TheVariants.{Counted}
 use Rattle.model.specs.declared.Monitor.{Monitor}
 use Rattle.model.specs.declared.Phy.{Phy}
 use Rattle.model.specs.declared.Shelf.{Shelf}
-use Rattle.model.specs.Counting.{originate_times, originate_marked, counted, crossings, crossed, add_error, event_on}
+use Rattle.model.specs.Counting.{originate_times, counted, crossed, add_error, event_on}
 use Rattle.model.specs.Fits.{Placed}
 use Rattle.model.specs.Reply.{error_at, monitor_at}
 use Rattle.model.specs.Reports.{event_taken, event}
@@ -29,10 +29,9 @@ use Rattle.model.proofs.Demands.Invariant.{started_placed, phy_placed}
 use Rattle.model.proofs.Laws.Checks.{counted_iff}
 use Rattle.model.proofs.Laws.Places.{any_default}
 use Rattle.model.proofs.Laws.Tests.{is_true, is_false, within_iff, within_true, cond_by, cond_both}
-use Rattle.model.proofs.Plain.Counting.{add_error_length, crossings_times, Crossings, crossed_are}
+use Rattle.model.proofs.Plain.Counting.{add_error_length, Crossings, crossings_one, crossed_are}
 use Rattle.model.proofs.Plain.Reports.{event_done}
 use Rattle.model.proofs.Plain.Shelf.{OnlyPhy, same_shelf, put_same, put_only}
-use Rattle.model.proofs.Plain.Those.{those_one}
 use Rattle.model.proofs.Plain.Sources.{supported_iff, counting_not_peak}
 
 -- ---- what it says
@@ -76,7 +75,7 @@ pub record ShelfCounted (s : Shelf) (p source amount : ℕ) (t : Shelf) : Type 0
 
 -- ---- one monitor
 
-pub counted_monitor : (source amount : ℕ) (m : Monitor) → MonitorCounted source amount m (counted source amount m)
+counted_monitor : (source amount : ℕ) (m : Monitor) → MonitorCounted source amount m (counted source amount m)
 unfolding counted
 counted_monitor source amount m =
     record {
@@ -86,13 +85,6 @@ counted_monitor source amount m =
       wraps = λ e c. rw (eq-eqb m.source source e, is_false (peak source) (counting_not_peak source c));
       larger = λ e top. rw (eq-eqb m.source source e, is_true (peak source) top);
     }
-
--- monitor i of a phy's
-counted_there : (source amount : ℕ) (ms : List Monitor) (i : ℕ) → i < length ms
-    → get_or (map (counted source amount) ms) i fresh_monitor ≡ counted source amount (get_or ms i fresh_monitor)
-counted_there source amount ms i h =
-    any_default (map (counted source amount) ms) i fresh_monitor (counted source amount fresh_monitor) (rw (length-map ms (counted source amount)) h)
-    ∙ get_or-map (counted source amount) ms i fresh_monitor
 
 -- what is said of it settles it, as a supported source is counting or peak
 monitor_one : {source amount : ℕ} {m a b : Monitor} → T (supported source)
@@ -143,7 +135,7 @@ event_counted source amount x y made (four_errors, four_monitors) =
     let size : length new ≡ 4 = length-map x.monitors (counted source amount) ∙ four_monitors in
     record {
       monitors_number = rw made size;
-      monitors = λ i below. rw (made, counted_there source amount x.monitors i (rw four_monitors below)) (counted_monitor source amount (monitor_at x i));
+      monitors = λ i below. rw (made, counted_there i (rw size below)) (counted_monitor source amount (monitor_at x i));
       errors_number = rw made (add_error_length source amount x.errors ∙ four_errors);
       error_added = rw made (added_there source amount x.errors four_errors);
       error_kept = rw made (λ k below. kept_there source amount x.errors k);
@@ -155,6 +147,12 @@ event_counted source amount x y made (four_errors, four_monitors) =
       change0 = rw made;
       expander2 = rw made;
     }
+  where
+    counted_there : (i : ℕ) → i < length (map (counted source amount) x.monitors)
+        → get_or (map (counted source amount) x.monitors) i fresh_monitor ≡ counted source amount (monitor_at x i)
+    counted_there i h =
+        any_default (map (counted source amount) x.monitors) i fresh_monitor (counted source amount fresh_monitor) h
+        ∙ get_or-map (counted source amount) x.monitors i fresh_monitor
 
 phy_one : {source amount : ℕ} {x y z : Phy} → T (supported source)
     → PhyCounted source amount x y → PhyCounted source amount x z → y ≡ z
@@ -168,7 +166,7 @@ phy_one {source} {amount} {x} {y} {z} known a b =
     let errors : y.errors ≡ z.errors =
     ext_get_or 0 _ _ (a.errors_number ∙ sym b.errors_number)
     (λ k h. error_one k (rw a.errors_number at h) (eqb source (k + 1)) refl) in
-    let crossed : a.crossed ≡ b.crossed = those_one a.crossings (rw monitors b.crossings) in
+    let crossed : a.crossed ≡ b.crossed = crossings_one a.crossings (rw monitors b.crossings) in
     cc (whole y, whole z)
   where
     error_one : (k : ℕ) → k < 4 → (on : Bool) → eqb source (k + 1) ≡ on → error_at y k ≡ error_at z k
@@ -181,21 +179,13 @@ phy_one {source} {amount} {x} {y} {z} known a b =
 
 -- ---- the shelf
 
--- a report that is counted names a phy that exists, in its place, with four error counts and four monitors
-pub counted_placed : (s : Shelf) → Placed s → (p source amount : ℕ) {cut : Bool} → (event s p source amount).answer ≡ Counted cut
-    → (p < length s.phys) × Four (phy_at s p)
-unfolding event
-counted_placed s placed p source amount {cut} told =
-    let (taken, _) = (counted_iff (event_taken (exists s p) source amount) _ cut).0 told in
-    phy_placed s p placed ((event_done s p source amount).0 taken).phy_exists
-
 -- an event report that is taken, of every shelf whose arrays have their places
 pub placed_event_effect : (s : Shelf) → Placed s → (p source amount : ℕ) {cut : Bool} → (event s p source amount).answer ≡ Counted cut
     → ShelfCounted s p source amount (event s p source amount).shelf
 unfolding event event_on event_counted
 placed_event_effect s placed p source amount {cut} told =
     let (taken, _) = (counted_iff (event_taken (exists s p) source amount) _ cut).0 told in
-    let (h, four) = counted_placed s placed p source amount told in
+    let (h, four) = phy_placed s p placed ((event_done s p source amount).0 taken).phy_exists in
     rw taken
     (record {
       phy = event_counted source amount (phy_at s p) _ (put_same s p (event_on source amount (phy_at s p)).phy s.changes h) four;
@@ -203,27 +193,6 @@ placed_event_effect s placed p source amount {cut} told =
       changes = refl;
       store = refl;
     })
-
--- its monitors one by one, and Expander 1h, as the definition has them
-pub placed_event_monitor : (s : Shelf) → Placed s → (p source amount : ℕ) {cut : Bool} → (event s p source amount).answer ≡ Counted cut
-    → (i : ℕ) → i < 4
-    → monitor_at (phy_at (event s p source amount).shelf p) i ≡ counted source amount (monitor_at (phy_at s p) i)
-unfolding event event_on
-placed_event_monitor s placed p source amount {cut} told i below =
-    let (taken, _) = (counted_iff (event_taken (exists s p) source amount) _ cut).0 told in
-    let (h, (_, four)) = counted_placed s placed p source amount told in
-    rw (taken, put_same s p (event_on source amount (phy_at s p)).phy s.changes h)
-    (counted_there source amount (phy_at s p).monitors i (rw four below))
-
-pub placed_event_expander1 : (s : Shelf) → Placed s → (p source amount : ℕ) {cut : Bool} → (event s p source amount).answer ≡ Counted cut
-    → (phy_at (event s p source amount).shelf p).expander1 ≡ originate_marked (crossings source amount (phy_at s p).monitors) (phy_at s p).expander1
-unfolding event event_on
-placed_event_expander1 s placed p source amount {cut} told =
-    let ms : List Monitor = (phy_at s p).monitors in
-    let (taken, _) = (counted_iff (event_taken (exists s p) source amount) _ cut).0 told in
-    let (h, _) = counted_placed s placed p source amount told in
-    rw (taken, put_same s p (event_on source amount (phy_at s p)).phy s.changes h)
-    (sym (crossings_times source amount ms (phy_at s p).expander1))
 
 -- For every started shelf, after any operations, and every event report that is taken.
 pub event_effect : (s : Shelf) → Started s → (p source amount : ℕ) {cut : Bool} → (event s p source amount).answer ≡ Counted cut
@@ -236,5 +205,5 @@ pub event_one_shelf : {s t u : Shelf} {p source amount : ℕ} → T (supported s
 event_one_shelf {p = p} known a b =
     let same = phy_one known a.phy b.phy in
     let monitors = ap (λ y. y.monitors) same in
-    let crossed : a.phy.crossed ≡ b.phy.crossed = those_one a.phy.crossings (rw monitors b.phy.crossings) in
+    let crossed : a.phy.crossed ≡ b.phy.crossed = crossings_one a.phy.crossings (rw monitors b.phy.crossings) in
     same_shelf a.only b.only same (a.changes ∙ sym b.changes) (cc (a.store, b.store, crossed))

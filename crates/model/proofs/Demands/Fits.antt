@@ -2,7 +2,7 @@
 use Prim.Native.Nat.{ℕ, zero, suc, ◌+◌, ◌≤◌, ◌<◌}
 use native.Mathlib.Nat.{zero-add}
 use native.Mathlib.Omega.{arith}
-use mathlib.Core.Path.{◌≡◌, refl, subst⁻¹, ◌∙◌}
+use mathlib.Core.Path.{◌≡◌, refl, ◌∙◌}
 use mathlib.Core.Bool.{Bool, true, false}
 use mathlib.Core.List.{List, [], ◌∷◌, map}
 use borrow.Author.Tests.{ltb-true, ltb-false}
@@ -14,18 +14,18 @@ use Rattle.model.specs.declared.Monitor.{Monitor}
 use Rattle.model.specs.declared.Phy.{Phy}
 use Rattle.model.specs.declared.Store.{Store}
 use Rattle.model.specs.Bytes.{dword}
-use Rattle.model.specs.Counting.{originate, originate_if, originate_times, effect_of, quiet, picked, stored_of, and_then, change_on}
-use Rattle.model.specs.Counting.{add_saturating, counted, crossings, crossed, add_error, event_on}
+use Rattle.model.specs.Counting.{originate, originate_if, originate_times, add_saturating, counted, picked, crossed, add_error, event_on}
+use Rattle.model.specs.Counting.{quiet, change_on}
 use Rattle.model.specs.Fits.{BytesFit, MonitorFits, PhyFits, EntryFits, StoreFits, InARow}
 use Rattle.model.specs.Shelf.{phy_with, fresh_monitor, fresh_phy, entry_of, no_entry, fresh_store}
 use Rattle.model.specs.Sources.{peak}
 use Rattle.model.specs.Store.{place, count_on, store, entries_of}
 use Rattle.model.specs.Tests.{within}
 use Rattle.model.specs.Writes.{without_errors, controlled, set_monitor, set_monitors, set_on, clear_monitor, any_peak}
-use Rattle.model.specs.Writes.{peaks, clear_on, clear_if, hearings, hear_on, configured}
-use Rattle.model.proofs.Laws.Places.{All, Each, all_append, each_all, change_at, map_at, replicate_each}
+use Rattle.model.specs.Writes.{clear_on, configured}
+use Rattle.model.proofs.Laws.Places.{All, Each, each_all, change_at, map_at, replicate_each}
 use Rattle.model.proofs.Laws.Tests.{cond_by, cond_both}
-use Rattle.model.proofs.Plain.Counting.{originate_adds, originate_range, add_error_length, picked_all, then_stores}
+use Rattle.model.proofs.Plain.Counting.{originate_adds, originate_range, add_error_length, picked_all}
 use Rattle.model.proofs.Plain.Writes.{set_length, set_at_lem}
 
 -- ---- counts
@@ -117,20 +117,16 @@ module _ (frame : List ℕ) (fit : BytesFit frame) where
 abbrev pub FitsOn : Phy → Phy → Type 0
 FitsOn x y = PhyFits x → PhyFits y
 
--- what is done to a phy keeps that, and what is stored of it fits
+-- what is done to a phy keeps that, and what may be stored of it fits
 abbrev pub EffectFits : Phy → Effect → Type 0
-EffectFits x e = PhyFits x → PhyFits e.phy × All MonitorFits (stored_of e)
+EffectFits x e = PhyFits x → PhyFits e.phy × MonitorsFit e.monitors
 
 abbrev pub KeepsFit : (Phy → Effect) → Type 0
 KeepsFit f = (x : Phy) → EffectFits x (f x)
 
--- some of a phy's monitors
-some_fit : {x : Phy} (marks : List Bool) → PhyFits x → All MonitorFits (picked marks x.monitors)
-some_fit {x} marks f = picked_all MonitorFits marks x.monitors (each_all MonitorFits fresh_monitor x.monitors f.monitors)
-
 -- what is stored of a phy as it is afterwards
-as_left : {x : Phy} (y : Phy) (change : Bool) (marks : List Bool) → FitsOn x y → EffectFits x (effect_of y change y.monitors marks)
-as_left y change marks keeps f = let after : PhyFits y = keeps f in (after, some_fit marks after)
+as_left : {x : Phy} (y : Phy) → FitsOn x y → PhyFits x → PhyFits y × MonitorsFit y.monitors
+as_left y keeps f = let after : PhyFits y = keeps f in (after, (after.monitors_size, after.monitors))
 
 -- other numbers in it, from what each keeps
 fits_with : (x : Phy) {enabled : Bool} {errors : List ℕ} {ms : List Monitor} {change0 expander1 expander2 : ℕ}
@@ -155,7 +151,7 @@ fits_with x es fs c0 e1 e2 f =
 pub event_keeps : (source amount : ℕ) → amount ≤ 0xFFFFFFFF → KeepsFit (event_on source amount)
 unfolding event_on
 event_keeps source amount h x =
-    as_left _ false (crossings source amount x.monitors)
+    as_left _
     (fits_with x (add_error_fits source amount x.errors)
     (map_fits (counted source amount) (counted_fits source amount h) x.monitors)
     (λ f. f)
@@ -165,7 +161,7 @@ event_keeps source amount h x =
 pub change_keeps : (enabled : Bool) → KeepsFit (change_on enabled)
 unfolding change_on
 change_keeps enabled x =
-    as_left _ true (replicate 4 false) (fits_with x (λ f. f) (λ f. f) (originated_fits true x.change0) (λ f. f) (λ f. f))
+    as_left _ (fits_with x (λ f. f) (λ f. f) (originated_fits true x.change0) (λ f. f) (λ f. f))
 
 without_errors_keeps : (x : Phy) → FitsOn x (without_errors x)
 without_errors_keeps x = fits_with x (λ f. no_errors_fit) (λ f. f) (λ f. f) (λ f. f) (λ f. f)
@@ -183,8 +179,8 @@ controlled_all P operation x none change clear =
 
 pub control_keeps : (operation : ℕ) → KeepsFit (controlled operation)
 control_keeps operation x =
-    controlled_all (EffectFits x) operation x (as_left x false (replicate 4 false) (λ f. f)) (λ enabled. change_keeps enabled x)
-    (as_left (without_errors x) false (replicate 4 false) (without_errors_keeps x))
+    controlled_all (EffectFits x) operation x (as_left x (λ f. f)) (λ enabled. change_keeps enabled x)
+    (as_left (without_errors x) (without_errors_keeps x))
 
 set_keeps : (frame : List ℕ) → BytesFit frame → (d : ℕ) (x : Phy) → FitsOn x (set_on frame d x)
 unfolding set_on
@@ -197,33 +193,14 @@ clear_keeps x f = (
   fits_with x (λ f. f) (map_fits clear_monitor clear_fits x.monitors) (λ f. f) (λ f. f)
       (originated_fits (any_peak x.monitors) x.expander2)
       f,
-  some_fit (peaks x.monitors) f,
+  (f.monitors_size, f.monitors),
 )
-
-clear_if_keeps : (clear : Bool) → KeepsFit (clear_if clear)
-clear_if_keeps clear x = cond_both (EffectFits x) clear _ _ (clear_keeps x) (as_left x false (replicate 4 false) (λ f. f))
-
-hear_keeps : (frame : List ℕ) (d : ℕ) (before : List Monitor) → KeepsFit (hear_on frame d before)
-unfolding hear_on
-hear_keeps frame d before x =
-    let marks : List Bool = hearings frame d 0 before x.monitors in
-    as_left _ false marks
-    (fits_with x (λ f. f) (λ f. f) (λ f. f) (times_fit (length (picked marks x.monitors)) x.expander1) (λ f. f))
-
--- one effect after another
-then_keeps : {x : Phy} (first second : Effect) → EffectFits x first → EffectFits first.phy second → EffectFits x (and_then first second)
-unfolding and_then
-then_keeps first second one other f =
-    let (between, these) = one f in
-    let (after, those) = other between in
-    (after, subst⁻¹ (All MonitorFits) (then_stores first second) (all_append MonitorFits (stored_of first) (stored_of second) these those))
 
 pub configure_keeps : (frame : List ℕ) → BytesFit frame → (d : ℕ) (clear : Bool) → KeepsFit (configured frame d clear)
 unfolding configured
 configure_keeps frame fit d clear x =
-    let y : Phy = set_on frame d x in
-    then_keeps (clear_if clear y) (hear_on frame d x.monitors (clear_if clear y).phy) (λ f. clear_if_keeps clear y (set_keeps frame fit d x f))
-    (hear_keeps frame d x.monitors (clear_if clear y).phy)
+    let set : FitsOn x (set_on frame d x) = set_keeps frame fit d x in
+    cond_both (EffectFits x) clear _ _ (λ f. clear_keeps (set_on frame d x) (set f)) (as_left (set_on frame d x) set)
 
 -- ---- the stored peak events
 
@@ -232,8 +209,10 @@ entry_fits p below [] all = tt
 entry_fits p below (m ∷ ms) all = (record { phy = omega arith; monitor = all.0 }, entry_fits p below ms all.1)
 
 -- what an effect stores of a phy that fits
-pub entries_fit : (p : ℕ) → p < 24 → (e : Effect) → All MonitorFits (stored_of e) → All EntryFits (entries_of p e)
-entries_fit p below e fit = entry_fits p below (stored_of e) fit
+pub entries_fit : (p : ℕ) → p < 24 → (e : Effect) → MonitorsFit e.monitors → All EntryFits (entries_of p e)
+entries_fit p below e f =
+    entry_fits p below (picked e.stored e.monitors)
+    (picked_all MonitorFits e.stored e.monitors (each_all MonitorFits fresh_monitor e.monitors f.1))
 
 count_on_fits : (count : ℕ) → count ≤ 0xFFFFFFFF → count_on count ≤ 0xFFFFFFFF
 count_on_fits count h = cond_by (λ n. n ≤ 0xFFFFFFFF) (ltb count 32) _ _ (λ e. omega (arith, ltb-true count 32 e)) (λ e. omega arith)
@@ -311,7 +290,7 @@ control_four operation x f =
     controlled_all (λ e. Four e.phy) operation x f (λ enabled. change_four enabled x f) (refl, f.1)
 
 pub configure_four : (frame : List ℕ) (d : ℕ) (clear : Bool) → KeepsFour (configured frame d clear)
-unfolding configured set_on clear_on and_then hear_on
+unfolding configured set_on clear_on
 configure_four frame d clear x f =
     let set : length (set_monitors frame d 0 x.monitors) ≡ 4 = set_length frame d 0 x.monitors ∙ f.1 in
     cond_both (λ (e : Effect). Four e.phy) clear _ _ (f.0, length-map (set_monitors frame d 0 x.monitors) clear_monitor ∙ set) (f.0, set)

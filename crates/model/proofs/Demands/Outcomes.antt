@@ -30,7 +30,7 @@ use Rattle.model.specs.Shelf.{exists, phy_at, put, put_device, put_store, entry_
 use Rattle.model.specs.Store.{store_all}
 use Rattle.model.proofs.Demands.Cut.{CutBy, event_told_lem}
 use Rattle.model.proofs.Demands.Refusals.{start_refusals, request_refusals, event_refusals, link_change_refusals, start_gives}
-use Rattle.model.proofs.Demands.Refusals.{request_gives, event_gives, link_change_gives, request_refusal, refused_stays}
+use Rattle.model.proofs.Demands.Refusals.{request_gives, event_gives, link_change_gives, request_refusal, event_refusal}
 use Rattle.model.proofs.Demands.Results.{failures, NotRefused, result_drawn, Failed, failed_result, Granted}
 use Rattle.model.proofs.Demands.Results.{granted_result}
 use Rattle.model.proofs.Laws.Checks.{house_some, counted_iff}
@@ -156,7 +156,7 @@ every_event s p source amount = go (event s p source amount).answer refl
         let some : 1 ≤ house_number house = house_some house in
         let number : event_number (event s p source amount).answer ≡ house_number house = ap event_number told in
         NotHeard (house_number house) some number (((event_gives s p source amount).each (house_number house)).0 (some, number))
-        (refused_stays s p source amount told)
+        (event_refusal s p source amount (rw number some))
 
 -- ---- A reach query is refused with H4, or answered with both numbers; a device notice is always done.
 

@@ -2,15 +2,13 @@
 -- what a refusal leaves. Assumes nothing.
 use Prim.Native.Nat.{ℕ, ◌≤◌, ◌<◌}
 use native.Mathlib.Omega.{arith}
-use mathlib.Core.Path.{◌≡◌, refl, ap, subst⁻¹}
+use mathlib.Core.Path.{◌≡◌, refl}
 use mathlib.Core.Logic.Iff
 use mathlib.Core.Logic.{◌↔◌, ◌⊎◌, inl, inr}
 use mathlib.Core.Bool.{Bool, not}
 use mathlib.Core.List.{List, [], ◌∷◌}
 use lib.Dec.{T, ltb, eqb}
 use lib.ListN.{length, get_or}
-use Rattle.model.specs.declared.EventAnswer.TheVariants.{NotCounted}
-use Rattle.model.specs.declared.House.{House}
 use Rattle.model.specs.declared.Shelf.{Shelf}
 use Rattle.model.specs.Bytes.{byte}
 use Rattle.model.specs.House.{taken_number, event_number, answer_number, query_number}
@@ -22,7 +20,7 @@ use Rattle.model.specs.Shelf.{exists, no_shelf, groups_fit, start_taken, start}
 use Rattle.model.specs.Sources.{supported}
 use Rattle.model.specs.Tests.{within}
 use Rattle.model.specs.Zone.{zone_group, legal_table}
-use Rattle.model.proofs.Laws.Checks.{house_some, answer_number_lem, outcome_taken, outcome_stays}
+use Rattle.model.proofs.Laws.Checks.{answer_number_lem, outcome_taken, outcome_stays}
 use Rattle.model.proofs.Laws.Handled.{concluded, handled, concluded_all, handled_all}
 use Rattle.model.proofs.Laws.Lowest.{Gives, first_given, no_more, says, row_gives, place_given}
 use Rattle.model.proofs.Laws.Tests.{check_map, denied_iff, either_iff, above_iff, ltb_iff, eqb_iff}
@@ -181,11 +179,6 @@ pub event_refusal : (s : Shelf) (p source amount : ℕ) → 1 ≤ event_number (
     → (event s p source amount).shelf ≡ s
 unfolding event
 event_refusal s p source amount = rw answer_number_lem (outcome_stays (event_taken (exists s p) source amount) s _)
-
--- .. by its answer
-pub refused_stays : (s : Shelf) (p source amount : ℕ) {house : House} → (event s p source amount).answer ≡ NotCounted house
-    → (event s p source amount).shelf ≡ s
-refused_stays s p source amount {house} told = event_refusal s p source amount (subst⁻¹ (λ n. 1 ≤ n) (ap event_number told) (house_some house))
 
 pub link_change_refusal : (s : Shelf) (p : ℕ) → 1 ≤ taken_number (link_change s p).taken → (link_change s p).shelf ≡ s
 unfolding link_change

@@ -3,7 +3,7 @@ use Prim.Native.Nat.{ℕ, suc, ◌≤◌}
 use native.Mathlib.Omega.{arith}
 use mathlib.Core.Path.{◌≡◌, refl, sym, ap, ◌∙◌}
 use mathlib.Core.Bool.{Bool, true, false, cond, ◌||◌}
-use mathlib.Core.List.{List, [], ◌∷◌, ◌++◌, map}
+use mathlib.Core.List.{List, [], ◌∷◌, ◌++◌, map, append-nil}
 use lib.Dec.{T, ltb}
 use borrow.Author.Tests.{lt-ltb}
 use lib.ListN.{length, get_or}
@@ -11,31 +11,31 @@ use Rattle.model.specs.declared.Effect.{Effect}
 use Rattle.model.specs.declared.Monitor.{Monitor}
 use Rattle.model.specs.declared.Phy.{Phy}
 use Rattle.model.specs.declared.Shelf.{Shelf}
-use Rattle.model.specs.Counting.{originate_if, originate_times, stores_none, picked, stored_of, and_then, crossed, change_on, event_on}
+use Rattle.model.specs.Counting.{originate_if, originate_times, stores_none, picked, crossed, change_on, event_on}
 use Rattle.model.specs.Runs.{Operation, next, Started}
 use Rattle.model.specs.Shelf.{exists, no_phy, phy_at, put, entry_of}
 use Rattle.model.specs.Store.{store, store_all}
 use Rattle.model.specs.Fits.{Placed}
 use Rattle.model.specs.Sources.{peak}
-use Rattle.model.specs.Writes.{without_errors, controlled, set_monitors, set_on, any_peak, peaks, clear_on, clear_if, hear_on, configured}
+use Rattle.model.specs.Writes.{without_errors, controlled, set_monitors, set_on, any_peak, peaks, clear_on, configured}
 use Rattle.model.proofs.Demands.Fits.{controlled_all}
 use Rattle.model.proofs.Demands.Invariant.{started_placed, phy_placed}
 use Rattle.model.proofs.Laws.Steps.{Step, Stays, ChangesPhy, CountsNotice, every_change, next_step}
-use Rattle.model.proofs.Plain.Counting.{none_picked, then_stores}
+use Rattle.model.proofs.Plain.Counting.{none_picked}
 use Rattle.model.proofs.Plain.Shelf.{put_same, put_other}
 
 -- of what is done to a phy x
 record Stores (x : Phy) (e : Effect) : Type 0 where
-  cleared : List Monitor
   crossed : List Monitor
-  those : stored_of e ≡ cleared ++ crossed
+  cleared : List Monitor
+  those : picked e.stored e.monitors ≡ crossed ++ cleared
   expander1 : e.phy.expander1 ≡ originate_times (length crossed) x.expander1
   expander2 : e.phy.expander2 ≡ originate_if (ltb 0 (length cleared)) x.expander2
 
 -- nothing is stored, and neither is originated
 none_stores : (x y : Phy) (change : Bool) → y.expander1 ≡ x.expander1 → y.expander2 ≡ x.expander2 → Stores x (stores_none y change)
 none_stores x y change e1 e2 =
-    record { cleared = []; crossed = []; those = none_picked 4 y.monitors; expander1 = e1; expander2 = e2 }
+    record { crossed = []; cleared = []; those = none_picked 4 y.monitors; expander1 = e1; expander2 = e2 }
 
 any_peak_stored : (ms : List Monitor) → any_peak ms ≡ ltb 0 (length (picked (peaks ms) ms))
 unfolding any_peak
@@ -54,9 +54,9 @@ event_storing : (source amount : ℕ) → Storing (event_on source amount)
 unfolding event_on
 event_storing source amount x =
     record {
-      cleared = [];
       crossed = crossed source amount x.monitors;
-      those = refl;
+      cleared = [];
+      those = sym (append-nil (crossed source amount x.monitors));
       expander1 = refl;
       expander2 = refl;
     }
@@ -71,35 +71,26 @@ control_storing operation x =
     (none_stores x (without_errors x) false refl refl)
 
 configure_storing : (frame : List ℕ) (d : ℕ) (clear : Bool) → Storing (configured frame d clear)
-unfolding configured set_on clear_on and_then hear_on
-configure_storing frame d clear x =
-    let cleared : Effect = clear_if clear (set_on frame d x) in
-    let hears : Effect = hear_on frame d x.monitors cleared.phy in
+unfolding configured set_on clear_on
+configure_storing frame d true x =
+    let ms : List Monitor = set_monitors frame d 0 x.monitors in
     record {
-      cleared = stored_of cleared;
-      crossed = stored_of hears;
-      those = then_stores cleared hears;
-      expander1 = ap (originate_times (length (stored_of hears))) (go clear).0;
-      expander2 = (go clear).1;
+      crossed = [];
+      cleared = picked (peaks ms) ms;
+      those = refl;
+      expander1 = refl;
+      expander2 = ap (λ b. originate_if b x.expander2) (any_peak_stored ms);
     }
-  where
-    ms : List Monitor
-    ms = set_monitors frame d 0 x.monitors
+configure_storing frame d false x = none_stores x (set_on frame d x) false refl refl
 
-    go : (clear : Bool)
-        → (let e : Effect = clear_if clear (set_on frame d x) in
-        (e.phy.expander1 ≡ x.expander1) × (e.phy.expander2 ≡ originate_if (ltb 0 (length (stored_of e))) x.expander2))
-    go true = (refl, ap (λ b. originate_if b x.expander2) (any_peak_stored ms))
-    go false = (refl, rw (none_picked 4 ms))
-
--- Every operation: Expander 2h of one phy that exists is originated once if some of its monitors were cleared, Expander 1h once for each of some
--- that crossed their threshold, or that a 93h hears at it (#105); all of these are stored, in this order; and no other phy's is originated.
+-- Every operation: Expander 1h of one phy that exists is originated once for each of some monitors, Expander 2h once if there are others, and
+-- all of these are stored, in this order; and no other phy's is originated.
 pub record StoredTogether (s t : Shelf) : Type 0 where
   pub phy : ℕ
-  pub cleared : List Monitor
   pub crossed : List Monitor
-  pub store : t.store ≡ store_all s.store (map (entry_of phy) (cleared ++ crossed))
-  pub there : 1 ≤ length (cleared ++ crossed) → T (exists s phy)
+  pub cleared : List Monitor
+  pub store : t.store ≡ store_all s.store (map (entry_of phy) (crossed ++ cleared))
+  pub there : 1 ≤ length (crossed ++ cleared) → T (exists s phy)
   pub expander1 : (phy_at t phy).expander1 ≡ originate_times (length crossed) (phy_at s phy).expander1
   pub expander2 : (phy_at t phy).expander2 ≡ originate_if (ltb 0 (length cleared)) (phy_at s phy).expander2
   pub others : (q : ℕ) → (q ≡ phy → ⊥)
@@ -110,8 +101,8 @@ stores_still s t phys store =
     let same : (q : ℕ) → phy_at t q ≡ phy_at s q = λ q. ap (λ ps. get_or ps q no_phy) phys in
     record {
       phy = 0;
-      cleared = [];
       crossed = [];
+      cleared = [];
       store = store;
       there = λ some. absurd (omega arith);
       expander1 = ap (λ x. x.expander1) (same 0);
@@ -129,8 +120,8 @@ step_stored s t placed (ChangesPhy p f there storing e) =
     rw e
     (record {
       phy = p;
-      cleared = stores.cleared;
       crossed = stores.crossed;
+      cleared = stores.cleared;
       store = ap (λ ms. store_all s.store (map (entry_of p) ms)) stores.those;
       there = λ some. there;
       expander1 = ap (λ y. y.expander1) same ∙ stores.expander1;

@@ -21,7 +21,6 @@ use Rattle.model.specs.Results.{grounds}
 use Rattle.model.specs.Runs.{Started}
 use Rattle.model.specs.Server.{served, lent_after}
 use Rattle.model.specs.Shelf.{exists}
-use Rattle.model.specs.Tally.{is_accepted}
 use Rattle.model.specs.Writes.{doing, effect}
 use Rattle.model.proofs.Demands.Configured.{Configured, configured_effect}
 use Rattle.model.proofs.Demands.Controlled.{Controlled, controlled_effect}
@@ -31,7 +30,7 @@ use Rattle.model.proofs.Demands.Results.{Of, SourcesAllowed, NotRefused, count_p
 use Rattle.model.proofs.Demands.Results.{sources_iff, failed_result, granted_result}
 use Rattle.model.proofs.Laws.Drawn.{AllPass}
 use Rattle.model.proofs.Laws.Handled.{handled_all, accepted_decided}
-use Rattle.model.proofs.Laws.Tests.{both_iff, leb_iff, eqb_iff, by_each}
+use Rattle.model.proofs.Laws.Tests.{leb_iff, by_each}
 use Rattle.model.proofs.Plain.Request.{asked_91, asked_93, by_function, right_length_91, right_length_93}
 use Rattle.model.proofs.Plain.Results.{count_right_lem, known_operations, known_operation_lem}
 
@@ -198,12 +197,6 @@ read_stays s g frame out read =
 -- accepted: no house refusal, and 00h for the result
 abbrev pub Accepted : Shelf → ℕ → List ℕ → List ℕ → Type 0
 Accepted s g frame out = NotRefused s g frame out × (byte (lent_after s g frame out) 2 ≡ 0x00)
-
-pub is_accepted_iff : (s : Shelf) (g : ℕ) (frame out : List ℕ) → T (is_accepted s g frame out) ↔ Accepted s g frame out
-is_accepted_iff s g frame out =
-    let number : ℕ = answer_number (served s g frame out).answer in
-    let result : ℕ = byte (lent_after s g frame out) 2 in
-    both_iff (eqb number 0) (eqb result 0x00) (eqb_iff number 0) (eqb_iff result 0x00)
 
 module _ (s : Shelf) (placed : Placed s) (g : ℕ) (frame out : List ℕ) where
   -- the shelf afterwards, and the result in the buffer

@@ -11,10 +11,10 @@ use Rattle.model.specs.declared.Request.{Request}
 use Rattle.model.specs.declared.Request.TheVariants.{ReportGeneral, ReportManufacturer, ReportBroadcast}
 use Rattle.model.specs.declared.Request.TheVariants.{ReportPhyErrorLog, ReportPhyEvent, ReportPhyEventList, PhyControl, ConfigurePhyEvent}
 use Rattle.model.specs.declared.Shelf.{Shelf}
-use Rattle.model.specs.Counting.{originate_if, quiet, and_then, change_on, event_on}
+use Rattle.model.specs.Counting.{originate_if, quiet, change_on, event_on}
 use Rattle.model.specs.Reports.{link_change_on}
 use Rattle.model.specs.Results.{accepted, grounds, check_operation, check_descriptors, result_of, decide}
-use Rattle.model.specs.Writes.{without_errors, controlled, set_on, clear_on, hear_on, configured, Doing, Reads, WritesTo, doing}
+use Rattle.model.specs.Writes.{without_errors, controlled, set_on, clear_on, configured, Doing, Reads, WritesTo, doing}
 use Rattle.model.proofs.Laws.Checks.{Granting, write_passed}
 
 -- ---- The requests that write
@@ -72,7 +72,7 @@ unfolding change_on
 link_change_inner = record { group = λ x. refl; enabled = λ x. refl; change = λ x. refl; change0 = λ x. refl }
 
 pub configured_inner : (frame : List ℕ) (d : ℕ) (clear : Bool) → Quiet (configured frame d clear)
-unfolding configured set_on clear_on and_then hear_on
+unfolding configured set_on clear_on
 configured_inner frame d true = record { group = λ x. refl; enabled = λ x. refl; change = λ x. refl; change0 = λ x. refl }
 configured_inner frame d false = record { group = λ x. refl; enabled = λ x. refl; change = λ x. refl; change0 = λ x. refl }
 

@@ -2,23 +2,21 @@
 use Prim.Native.Nat.{ℕ, zero, suc, ◌+◌, ◌-◌, ◌^◌, ◌≤◌, ◌<◌, min}
 use native.Mathlib.Nat.{mod-eq_of_lt, eq-or-lt_of_le}
 use native.Mathlib.Omega.{arith}
-use mathlib.Core.Path.{◌≡◌, refl, sym, ap, subst, ◌∙◌}
+use mathlib.Core.Path.{◌≡◌, refl, ap, ◌∙◌}
 use mathlib.Core.Logic.Iff
 use mathlib.Core.Logic.{◌↔◌, ⊎_elim}
 use mathlib.Core.Bool.{Bool, true, false, cond}
-use mathlib.Core.List.{List, [], ◌∷◌, ◌++◌, map}
+use mathlib.Core.List.{List, [], ◌∷◌, map}
 use borrow.Author.Tests.{ne_eqb}
 use lib.Dec.{T, leb, ltb}
-use lib.ListN.{length, get_or, replicate, length-set, length-map}
-use Rattle.model.specs.declared.Effect.{Effect}
+use lib.ListN.{length, get_or, replicate, length-set}
 use Rattle.model.specs.declared.Monitor.{Monitor}
-use Rattle.model.specs.Counting.{originate, originate_if, originate_times, originate_marked, add_wrapping, add_saturating, picked, stored_of, and_then, counted, crosses, crossings}
-use Rattle.model.specs.Counting.{crossed, originate_crossings, add_error, error_cut}
+use Rattle.model.specs.Counting.{originate, originate_if, originate_times, add_wrapping, add_saturating, counted, picked, crosses, crossed}
+use Rattle.model.specs.Counting.{originate_crossings, add_error, error_cut}
 use Rattle.model.specs.Sources.{peak}
 use Rattle.model.specs.Tests.{within}
 use Rattle.model.proofs.Laws.Places.{All}
 use Rattle.model.proofs.Laws.Tests.{is_true, is_false, all_three_iff, leb_iff, ltb_iff, cond_both}
-use Rattle.model.proofs.Plain.Those.{Those, marked, those_marked}
 
 -- "Originating adds one to that count; FFFFh goes to 0001h."
 pub originate_adds : (count : ℕ) → count < 0xFFFF → originate count ≡ count + 1
@@ -108,36 +106,6 @@ none_picked zero ms = refl
 none_picked (suc n) [] = refl
 none_picked (suc n) (m ∷ ms) = none_picked n ms
 
--- where all are, it is all of them
-pub all_picked : (ms : List Monitor) → picked (map (λ m. true) ms) ms ≡ ms
-all_picked [] = refl
-all_picked (m ∷ ms) = ap (λ ns. m ∷ ns) (all_picked ms)
-
--- two effects, one after the other, store what the first stores and then what the second stores
-pub then_stores : (first second : Effect) → stored_of (and_then first second) ≡ stored_of first ++ stored_of second
-unfolding and_then
-then_stores first second = all_picked (stored_of first ++ stored_of second)
-
--- a count that is originated once for each of the marked ones is originated once for each mark
-pub marked_times : (marks : List Bool) (ms : List Monitor) (count : ℕ) → length marks ≤ length ms
-    → originate_marked marks count ≡ originate_times (length (picked marks ms)) count
-unfolding originate_marked
-marked_times [] ms count few = refl
-marked_times (mark ∷ marks) [] count few = absurd (omega arith)
-marked_times (mark ∷ marks) (m ∷ ms) count few = go mark (λ count. marked_times marks ms count (omega arith))
-  where
-    go : (b : Bool) → ((count : ℕ) → originate_marked marks count ≡ originate_times (length (picked marks ms)) count)
-        → originate_marked marks (originate_if b count) ≡ originate_times (length (cond b (m ∷ picked marks ms) (picked marks ms))) count
-    go true others = others (originate count)
-    go false others = others count
-
--- so where a report crosses thresholds
-pub crossings_times : (source amount : ℕ) (ms : List Monitor) (count : ℕ)
-    → originate_marked (crossings source amount ms) count ≡ originate_crossings source amount ms count
-crossings_times source amount ms count =
-    marked_times (crossings source amount ms) (map (counted source amount) ms) count
-    (omega (arith, length-map ms (λ m. crosses m (counted source amount m).value), length-map ms (counted source amount)))
-
 -- ---- ".. originates Expander 1h, once per monitor"
 
 -- A monitor that was old is new: "A peak that a report takes from below its threshold to it or above".
@@ -153,20 +121,44 @@ crossed_iff old new =
       λ c. (c.on_peak, c.below, c.reached),
     )
 
--- which of some monitors have crossed
-abbrev pub Crossings : List Monitor → List Monitor → List Monitor → Type 0
-Crossings ms ns those = Those (λ i old new. Crossed old new) 0 ms ns those
+-- which of some monitors have crossed, in their order and as they are now, from what they were and what they are
+pub data Crossings : List Monitor → List Monitor → List Monitor → Type 0 where
+  NoMore : Crossings [] [] []
+  Crosses : {m n : Monitor} {ms ns those : List Monitor} → Crossed m n → Crossings ms ns those
+      → Crossings (m ∷ ms) (n ∷ ns) (n ∷ those)
+  CrossesNot : {m n : Monitor} {ms ns those : List Monitor} → (Crossed m n → ⊥) → Crossings ms ns those
+      → Crossings (m ∷ ms) (n ∷ ns) those
+
+-- that is settled
+pub crossings_one : {ms ns these those : List Monitor} → Crossings ms ns these → Crossings ms ns those → these ≡ those
+crossings_one NoMore NoMore = refl
+crossings_one (Crosses {n = n} c a) (Crosses d b) = ap (λ those. n ∷ those) (crossings_one a b)
+crossings_one (Crosses c a) (CrossesNot d b) = absurd (d c)
+crossings_one (CrossesNot c a) (Crosses d b) = absurd (c d)
+crossings_one (CrossesNot c a) (CrossesNot d b) = crossings_one a b
 
 -- those that the definition lists have crossed, and no others
 pub crossed_are : (source amount : ℕ) (ms : List Monitor)
     → Crossings ms (map (counted source amount) ms) (crossed source amount ms)
-crossed_are source amount ms =
-    let after : List Monitor = map (counted source amount) ms in
-    let mark : ℕ → Monitor → Monitor → Bool = λ i old new. crosses old new.value in
-    subst (λ marks. Crossings ms after (picked marks after)) (same 0 ms)
-    (those_marked mark (λ i. crossed_iff) 0 ms after (sym (length-map ms (counted source amount))))
+crossed_are source amount [] = NoMore
+crossed_are source amount (m ∷ ms) = go (crosses m new.value) refl (crossed_are source amount ms)
   where
-    same : (i : ℕ) (ms : List Monitor)
-        → marked (λ i old new. crosses old new.value) i ms (map (counted source amount) ms) ≡ crossings source amount ms
-    same i [] = refl
-    same i (m ∷ ms) = ap (λ marks. crosses m (counted source amount m).value ∷ marks) (same (suc i) ms)
+    new : Monitor
+    new = counted source amount m
+
+    go : (b : Bool) → crosses m new.value ≡ b → {ns those : List Monitor} → Crossings ms ns those
+        → Crossings (m ∷ ms) (new ∷ ns) (cond b (new ∷ those) those)
+    go true e rest = Crosses ((crossed_iff m new).0 (rw e tt)) rest
+    go false e rest = CrossesNot (λ c. rw e at ((crossed_iff m new).1 c)) rest
+
+-- so a count is originated once for each monitor: the first, and then the others
+pub crossings_next : (source amount : ℕ) (m : Monitor) (ms : List Monitor) (count : ℕ)
+    → originate_crossings source amount (m ∷ ms) count
+    ≡ originate_crossings source amount ms (originate_if (crosses m (counted source amount m).value) count)
+crossings_next source amount m ms count = go (crosses m (counted source amount m).value)
+  where
+    go : (b : Bool)
+        → originate_times (length (cond b (counted source amount m ∷ crossed source amount ms) (crossed source amount ms))) count
+        ≡ originate_crossings source amount ms (originate_if b count)
+    go true = refl
+    go false = refl

@@ -1,26 +1,24 @@
--- A 91h stores nothing; what a 93h sets, when one of a phy's monitors is on a peak source, and when a peak stands and a descriptor repeats
--- (#105), in plain logic. Assumes nothing.
-use Prim.Native.Nat.{ℕ, zero, suc, ◌+◌, ◌≤◌, ◌<◌, suc-le-suc}
+-- A 91h stores nothing; what a 93h sets, and when one of a phy's monitors is on a peak source, in plain logic. Assumes nothing.
+use Prim.Native.Nat.{ℕ, zero, suc, ◌+◌, ◌<◌, suc-le-suc}
 use native.Mathlib.Nat.{zero-lt-suc, not-suc-le-zero, le_of_suc-le-suc}
 use native.Mathlib.Omega.{arith}
 use mathlib.Core.Path.{◌≡◌, refl, ap}
 use mathlib.Core.Logic.Iff
 use mathlib.Core.Logic.{◌↔◌, ◌⊎◌, inl, inr}
-use mathlib.Core.Bool.{Bool, true, false, not, cond}
+use mathlib.Core.Bool.{Bool, true, false, cond}
 use mathlib.Core.List.{List, [], ◌∷◌}
-use lib.Dec.{T, leb, ltb, eqb}
+use lib.Dec.{T, ltb, eqb}
 use lib.ListN.{length, get_or}
 use Rattle.model.specs.declared.Effect.{Effect}
 use Rattle.model.specs.declared.Monitor.{Monitor}
 use Rattle.model.specs.declared.Phy.{Phy}
 use Rattle.model.specs.declared.Store.{Store}
 use Rattle.model.specs.Counting.{change_on}
-use Rattle.model.specs.Request.{descriptor_source, descriptor_threshold}
 use Rattle.model.specs.Shelf.{fresh_monitor}
 use Rattle.model.specs.Sources.{peak}
 use Rattle.model.specs.Store.{store_all, entries_of}
-use Rattle.model.specs.Writes.{without_errors, controlled, set_monitor, set_monitors, any_peak, peak_stands, repeats, hearings}
-use Rattle.model.proofs.Laws.Tests.{either_iff, both_iff, all_three_iff, denied_iff, leb_iff, eqb_iff, cond_both}
+use Rattle.model.specs.Writes.{without_errors, controlled, set_monitor, set_monitors, any_peak}
+use Rattle.model.proofs.Laws.Tests.{either_iff, cond_both}
 use Rattle.model.proofs.Plain.Store.{stores_none_lem}
 
 -- #101: a link change, and a 91h, stores nothing
@@ -71,31 +69,3 @@ any_peak_iff (m ∷ ms) =
     from : HasPeak (m ∷ ms) → T (peak m.source) ⊎ HasPeak ms
     from (zero, h, t) = inl t
     from (suc i, h, t) = inr (i, le_of_suc-le-suc h, t)
-
--- #105: "whose source is a peak source, whose threshold is not 0 and whose value is at or above it"
-pub peak_stands_iff : (m : Monitor)
-    → T (peak_stands m)
-    ↔ (T (peak m.source) × (m.threshold ≡ 0 → ⊥) × (m.threshold ≤ m.value))
-unfolding peak_stands
-peak_stands_iff m =
-    all_three_iff (peak m.source) (not (eqb m.threshold 0)) (leb m.threshold m.value) Iff.rfl
-    (denied_iff (eqb m.threshold 0) (eqb_iff m.threshold 0))
-    (leb_iff m.threshold m.value)
-
--- "that descriptor repeated the monitor's own source and threshold"
-pub repeats_iff : (frame : List ℕ) (i : ℕ) (before : Monitor)
-    → T (repeats frame i before)
-    ↔ ((before.source ≡ descriptor_source frame i) × (before.threshold ≡ descriptor_threshold frame i))
-unfolding repeats
-repeats_iff frame i before =
-    let source : ℕ = descriptor_source frame i in
-    let threshold : ℕ = descriptor_threshold frame i in
-    both_iff (eqb before.source source) (eqb before.threshold threshold) (eqb_iff before.source source)
-    (eqb_iff before.threshold threshold)
-
--- there are no more marks than monitors
-pub hearings_few : (frame : List ℕ) (d i : ℕ) (ms ns : List Monitor) → length (hearings frame d i ms ns) ≤ length ns
-unfolding hearings
-hearings_few frame d i [] ns = omega arith
-hearings_few frame d i (m ∷ ms) [] = omega arith
-hearings_few frame d i (m ∷ ms) (n ∷ ns) = suc-le-suc (hearings_few frame d (suc i) ms ns)

@@ -1,9 +1,10 @@
 -- `counters::phy::event_on` meets its contract: each part of the record is what its function gives, and the marks count the originations.
 -- Assumes nothing.
 use Rattle.std.proofs.Common.{◌≡◌, false, arith, rules}
-use Rattle.model.specs.Counting.{originate_marked, event_on}
+use Rattle.model.specs.Counting.{event_on}
 use Rattle.model.proofs.Laws.Four.{four}
-use Rattle.model.proofs.Plain.Counting.{crossings_times}
+use Rattle.counters.specs.Marked.{originate_marked}
+use Rattle.counters.proofs.Crossings.{marked_crossed}
 use Rattle.counters.proofs.phy.event_on.Statement.{statement}
 use Rattle.counters.proofs.phy.event_on.Tie as tie
 
@@ -28,7 +29,7 @@ returns c =
         marked.crossings.ensures,
         marked.before.counted-monitors.ensures,
         added.0,
-        crossings_times,
+        marked_crossed,
       ),
       added.1,
     )

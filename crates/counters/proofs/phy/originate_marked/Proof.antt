@@ -2,7 +2,7 @@
 -- left. Assumes nothing.
 use Rattle.std.proofs.Common.{◌≡◌, ℕ, Bool, true, false, not, ◌||◌, [], ◌∷◌, refl, rules}
 use mathlib.Core.Bool.{false≢true}
-use Rattle.model.specs.Counting.{originate_marked}
+use Rattle.counters.specs.Marked.{originate_marked}
 use Rattle.counters.proofs.phy.originate_marked.Statement.{statement}
 use Rattle.counters.proofs.phy.originate_marked.Tie as tie
 

@@ -1,0 +1,2 @@
+-- A count, and marks.
+pub mod Marked
