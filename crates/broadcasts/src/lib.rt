@@ -5,6 +5,9 @@
 // `report_broadcast` asks nothing of its caller. The functions that it rests on are private: they ask for room,
 // and for no more descriptors than there can be, which are 49: one under FFh and two for each of 24 phys.
 // (`kind` is the broadcast type; `type` is a word of the language.)
+
+#![tactic(auto)]
+
 ghost use Rattle.std.specs.Prelude.{◌≡◌, ◌≤◌, length};
 ghost use Rattle.model.specs.Reply.{listed, device_listed, phy_listed, seen_listed, broadcasts, broadcast_head, report_broadcast};
 ghost use Rattle.model.specs.Server.{least_buffer};

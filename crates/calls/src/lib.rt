@@ -4,3 +4,5 @@
 // There is no function here. What is seen of a call and of a run, and what the model says of it, is in
 // specs/; that runs go as the model's, and that the demands so hold of the words, the answers and the lent
 // buffers that the code leaves, is in proofs/.
+
+#![tactic(auto)]

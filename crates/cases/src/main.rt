@@ -2,6 +2,9 @@
 //
 // The script comes from standard input, and each of its lines is written out with what it came to.
 // The stored output was worked out from document 01 (docs/CASES.md), not taken from a run.
+
+#![tactic(auto)]
+
 mod print;
 mod request;
 mod run;

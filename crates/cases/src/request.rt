@@ -10,7 +10,7 @@ use spelling::part::at_most;
 use words::WORDS;
 
 // A frame that was read: how many bytes it has, and whether the line is a request.
-#[derive(Drop)]
+#[derive(Clone, Copy)]
 struct Frame {
     length: usize,
     fits: bool,

@@ -3,6 +3,9 @@
 //
 // Each public function is proved equal to a definition of the model (crates/model/specs), and bears
 // its name. None asks anything of its caller.
+
+#![tactic(auto)]
+
 pub mod counts;
 pub mod phy;
 pub mod report;

@@ -96,7 +96,7 @@ fn counted_monitors(source: u32, amount: u32, before: [Monitor; 4]) -> [Monitor;
 }
 
 // The four error counts after a report, and whether its own addition to one of them was cut (#104).
-#[derive(Drop)]
+#[derive(Clone, Copy)]
 struct ErrorsAdded {
     errors: [u32; 4],
     cut: bool,
@@ -120,7 +120,7 @@ fn add_error(source: u32, amount: u32, errors: [u32; 4]) -> ErrorsAdded
 }
 
 // What an event report does to its phy, and whether its own addition to an error count was cut (#104).
-#[derive(Drop)]
+#[derive(Clone, Copy)]
 pub struct EventDone {
     pub effect: Effect,
     pub cut: bool,

@@ -5,6 +5,9 @@
 // stands what other crates need too: the bytes of a frame, and document 01's numbers. Each promise but
 // that of `word_of`, which is a sum, cites definitions: those of the model, and for the number for C those
 // of specs/FrameNumber. No public function asks anything of its caller.
+
+#![tactic(auto)]
+
 pub mod bytes;
 pub mod frame;
 pub mod numbers;

@@ -3,6 +3,9 @@
 // Each function calls the server's (crate `server`) and codes the answer as C's number, by one coding (specs/Told.antt).
 // C's side of the interface is firmware/kinubarsil.h. Each promise says all of what the call comes to: the number, the
 // words afterwards, and the lent buffer afterwards.
+
+#![tactic(auto)]
+
 mod told;
 
 ghost use Rattle.std.specs.Prelude.{◌≡◌, cond};

@@ -3,11 +3,13 @@
 // There is no function here. What the records and enums mean is in specs/, in the order of document 01
 // (specs/Lib.antt names the files); what follows from that is in proofs/.
 
+#![tactic(auto)]
+
 // H5: "response buffer shorter than 1,028 bytes" (`least_buffer` of specs/Server).
 pub const LEAST_BUFFER: usize = 1028;
 
 // A monitor has an event source, a 32-bit value and a 32-bit threshold.
-#[derive(Drop)]
+#[derive(Clone, Copy)]
 pub struct Monitor {
     pub source: u8,
     pub value: u32,
@@ -15,7 +17,7 @@ pub struct Monitor {
 }
 
 // Per phy: its group, enabled or not, four error counts, four monitors, three broadcast counts.
-#[derive(Drop)]
+#[derive(Clone, Copy)]
 pub struct Phy {
     pub group: u32,
     pub enabled: bool,
@@ -33,7 +35,7 @@ pub struct Phy {
 // What a write or a report does to the phy that it names: the phy afterwards; whether it originated Change, which moves
 // the change count too; and for the list of stored peak events (#101) the phy's monitors as they stand when they are
 // stored, and of each whether it is (`carried_out` of specs/Store).
-#[derive(Drop)]
+#[derive(Clone, Copy)]
 pub struct Effect {
     pub phy: Phy,
     pub change: bool,
@@ -42,14 +44,14 @@ pub struct Effect {
 }
 
 // What adding to an error count comes to (#104): the new number, and whether the exact sum was above FFFFFFFFh.
-#[derive(Drop)]
+#[derive(Clone, Copy)]
 pub struct Added {
     pub number: u32,
     pub cut: bool,
 }
 
 // An entry of the list of stored peak events: the phy, and its monitor (source, value and threshold) as it stood.
-#[derive(Drop)]
+#[derive(Clone, Copy)]
 pub struct Entry {
     pub phy: u8,
     pub monitor: Monitor,
@@ -57,7 +59,7 @@ pub struct Entry {
 
 // The list of stored peak events (#101), as it is kept: a store writes one entry in place. What it holds, oldest first, and
 // under which indexes, is in specs/Store.
-#[derive(Drop)]
+#[derive(Clone, Copy)]
 pub struct Store {
     // the last index stored, 0000h if none
     pub last: u16,
@@ -68,7 +70,7 @@ pub struct Store {
 }
 
 // The shelf: its phys, the permission table, and what is device wide.
-#[derive(Drop)]
+#[derive(Clone, Copy)]
 pub struct Shelf {
     // the phy number, 1 to 24
     pub number: u32,
@@ -89,7 +91,7 @@ pub struct Shelf {
 
 // The house refusals, H1 to H10 in this order; `house_number` gives each its number. By #103 `CutFrame` is H6
 // alone, and `WrongFrame` is H10.
-#[derive(Drop)]
+#[derive(Clone, Copy)]
 pub enum House {
     PhyNumber,
     PhyGroup,
@@ -104,7 +106,7 @@ pub enum House {
 }
 
 // The function results by their T10 names; `result_code` gives each its code.
-#[derive(Drop)]
+#[derive(Clone, Copy)]
 pub enum FunctionResult {
     Accepted,
     UnknownSmpFunction,
@@ -122,7 +124,7 @@ pub enum FunctionResult {
 // A request frame as it was read: one variant to a function, with the bytes that it names. (The expected count, two
 // bytes, is held in 32 bits: so the compiler keeps the variants apart, docs/BENCH.md.)
 // The descriptors of a 93h stay in the frame; `number` says how many there are.
-#[derive(Drop)]
+#[derive(Clone, Copy)]
 pub enum Request {
     ReportGeneral,
     ReportManufacturer,
@@ -156,7 +158,7 @@ pub enum Request {
 
 // What may decide a request that was read: the present change count, whether the phy that it names exists, whether its
 // source reaches it, and whether its source is group 1, which has management access rights (`grounds` of specs/Results).
-#[derive(Drop)]
+#[derive(Clone, Copy)]
 pub struct Grounds {
     pub changes: u16,
     pub there: bool,
@@ -165,7 +167,7 @@ pub struct Grounds {
 }
 
 // What judging one request frame alone yields: the read request, a house refusal or a failed result.
-#[derive(Drop)]
+#[derive(Clone, Copy)]
 pub enum Judged {
     Asked(Request),
     NoFrame(House),
@@ -173,14 +175,14 @@ pub enum Judged {
 }
 
 // What a start or a link change is told, and what an event report is judged to be: done, or the house refusal.
-#[derive(Drop)]
+#[derive(Clone, Copy)]
 pub enum Taken {
     Done,
     NotDone(House),
 }
 
 // What a start or a link change comes to: what is told, and the shelf afterwards.
-#[derive(Drop)]
+#[derive(Clone, Copy)]
 pub struct Outcome {
     pub taken: Taken,
     pub shelf: Shelf,
@@ -188,35 +190,35 @@ pub struct Outcome {
 
 // The answer to an event report (#104): counted, and whether its own addition to an error count was cut; or the house
 // refusal.
-#[derive(Drop)]
+#[derive(Clone, Copy)]
 pub enum EventAnswer {
     Counted { cut: bool },
     NotCounted(House),
 }
 
 // What an event report comes to: its answer, and the shelf afterwards.
-#[derive(Drop)]
+#[derive(Clone, Copy)]
 pub struct EventOutcome {
     pub answer: EventAnswer,
     pub shelf: Shelf,
 }
 
 // The answer to a reach query: the set of phys as a 32-bit number and how many they are, or H4.
-#[derive(Drop)]
+#[derive(Clone, Copy)]
 pub enum Reach {
     Reaches { phys: u32, number: u32 },
     NoReach(House),
 }
 
 // The answer to a request: the length of the response in the lent buffer, or the house refusal.
-#[derive(Drop)]
+#[derive(Clone, Copy)]
 pub enum Answer {
     Response(usize),
     NoResponse(House),
 }
 
 // What a request comes to: its answer, and the shelf afterwards.
-#[derive(Drop)]
+#[derive(Clone, Copy)]
 pub struct Served {
     pub answer: Answer,
     pub shelf: Shelf,

@@ -3,6 +3,9 @@
 //
 // `report_phy_event_list` asks nothing of its caller. The functions that it rests on are private: they ask for room, and
 // for no more descriptors than there can be, which are 32.
+
+#![tactic(auto)]
+
 ghost use Rattle.std.specs.Prelude.{◌≡◌, ◌∷◌, [], ◌+◌, ◌-◌, ◌%◌, ◌≤◌, ◌<◌, length, drop};
 ghost use Rattle.model.specs.Reply.{event_list_head, report_phy_event_list};
 ghost use Rattle.model.specs.Server.{least_buffer};

@@ -4,6 +4,9 @@
 // Each public function is proved equal to a definition of the model (crates/model/specs/Reply and
 // Bytes), and bears its name. `send_result` sends what `failed` is (`Sent`, crates/replies/specs). None asks
 // anything of its caller.
+
+#![tactic(auto)]
+
 pub mod fixed;
 mod lay;
 pub mod sending;

@@ -1,6 +1,9 @@
 // "Function results .. In this order, first failure decides": what a request that was read comes to, on the grounds that
 // may decide it (`model::Grounds`): the present change count, whether the request's phy exists, whether the source
 // reaches it, and whether the source is group 1.
+
+#![tactic(auto)]
+
 ghost use Rattle.std.specs.Prelude.{◌≡◌};
 ghost use Rattle.model.specs.Results.{count_right, known_operation, check_phy, check_read, check_write};
 ghost use Rattle.model.specs.Results.{check_kind, check_operation, check_descriptors, check_management};

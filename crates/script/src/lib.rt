@@ -3,6 +3,9 @@
 //
 // Nothing here reads or writes by itself, and no function asks anything of its caller. Each public one
 // is proved equal to a definition of specs/, or of the model.
+
+#![tactic(auto)]
+
 pub mod line;
 pub mod report;
 pub mod shelf_w;

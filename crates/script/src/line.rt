@@ -7,7 +7,7 @@ use gate::bytes::byte_at;
 use model::LEAST_BUFFER;
 
 // A heading, an operation of one of three kinds, or nothing to do.
-#[derive(Drop)]
+#[derive(Clone, Copy)]
 pub enum Line {
     Heading,
     Request,

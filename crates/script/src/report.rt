@@ -8,7 +8,7 @@ use model::EventAnswer;
 use server::{event, link_change, notice};
 use words::WORDS;
 
-#[derive(Drop)]
+#[derive(Clone, Copy)]
 pub enum Report {
     Event { phy: u32, source: u32, amount: u32 },
     LinkChange { phy: u32 },
@@ -17,7 +17,7 @@ pub enum Report {
 }
 
 // What a line of a report comes to: the report and how many times it is made, or none that could be read.
-#[derive(Drop)]
+#[derive(Clone, Copy)]
 pub enum ReportLine {
     Makes { times: u32, report: Report },
     NoReport,

@@ -9,7 +9,7 @@ ghost use Rattle.script.specs.Text.{read_number, read_byte, read_one, read};
 
 // How far a line has been read; whether all so far was as the forms have it (`fits`); whether, at the end
 // of a form, the line ends there too (`whole`); and the last three numbers, the latest as `third`.
-#[derive(Drop)]
+#[derive(Clone, Copy)]
 pub struct Reading {
     pub at: usize,
     pub fits: bool,
@@ -20,7 +20,7 @@ pub struct Reading {
 }
 
 // Digits that were read: the number, and the place after the last of them.
-#[derive(Drop)]
+#[derive(Clone, Copy)]
 struct Number {
     value: u32,
     end: usize,

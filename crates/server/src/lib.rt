@@ -8,6 +8,9 @@
 //
 // Each promise says all of what the call comes to, by the model's definitions of the shelf that the words stand for: the
 // answer, the words afterwards and, for `serve`, the lent buffer afterwards. None asks anything of its caller.
+
+#![tactic(auto)]
+
 mod pieces;
 mod reach;
 mod reads;

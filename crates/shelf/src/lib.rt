@@ -5,6 +5,9 @@
 // Each public function is proved equal to a definition of the model (crates/model/specs), and bears its name, or
 // says of the phy number alone what the definitions say of a shelf (`phy_number`, `exists`). None asks
 // anything of its caller.
+
+#![tactic(auto)]
+
 pub mod phys;
 pub mod reach;
 pub mod start;

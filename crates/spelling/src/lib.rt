@@ -2,6 +2,9 @@
 //
 // Nothing here writes by itself, and no public function asks anything of its caller. Each is proved
 // to give what a definition of specs/ says, and `at_most` the smaller of two numbers.
+
+#![tactic(auto)]
+
 pub mod part;
 
 ghost use Rattle.std.specs.Prelude.{◌≡◌, length, take, drop};

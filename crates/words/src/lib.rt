@@ -4,6 +4,9 @@
 // list of stored peak events is put back into them (`store`), and a start writes them all (`fresh`). What words stand for
 // which shelf is a definition, specs/Words.antt. No public function asks anything of its caller: any words stand for a
 // shelf.
+
+#![tactic(auto)]
+
 pub mod fresh;
 pub mod read;
 pub mod store;

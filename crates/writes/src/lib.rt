@@ -4,6 +4,9 @@
 // A record goes in by value, and comes back in one that also says whether Change was originated, and which
 // monitors are stored (#101). Each public function is proved equal to a definition of the model
 // (crates/model/specs), and bears its name. None asks anything of its caller.
+
+#![tactic(auto)]
+
 pub mod configure;
 pub mod control;
 pub mod descriptors;

@@ -5,7 +5,7 @@ use mathlib.Core.Path.{◌≡◌, sym, ap, ◌∙◌}
 use mathlib.Core.List.{List, [], ◌∷◌}
 use lib.ListN.{length}
 use contract.Lifetimes.{Lfts}
-use denote.Ref.{Bor}
+use denote.MutBor.{MutBor}
 use denote.Triple.Clauses.{Lasts}
 use mir.Syntax.{w8, w32}
 use borrow.Fn.Kinds.{ParamKind, ResultKind, Dens, res_t, ended_of}
@@ -38,7 +38,7 @@ result_open settled =
 -- and so of a function that returns nothing and is lent a buffer of bytes to write in.
 pub buffer_open : Settled {n = 1} (p_mut_s (rt_f (f_int w8)) 0 tt ∷ []) r_unit (λ κs a. Unit {0}) (λ κs a result exits. Unit {0}) → ⊥
 buffer_open settled =
-    let buffer : Bor (List ℕ) = record { ref_ptr = (0, 0); now = [] } in
+    let buffer : MutBor (List ℕ) = record { ref_ptr = (0, 0); ghost_name = 0; now = [] } in
     let same : ◌≡◌ {A = ℕ} 0 1 =
     ap (λ (l : List ℕ × Unit {0}). length l.0)
     (settled.same_lent ([], tt) (buffer, tt)
