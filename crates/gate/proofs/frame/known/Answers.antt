@@ -1,12 +1,9 @@
 -- `gate::frame::known` meets its contract: `one_of` of the eight functions is the row of comparisons. Assumes nothing.
 use mathlib.Core.Bool.{or_assoc, or-false}
 use Rattle.model.specs.Request.{known}
-use Rattle.gate.proofs.frame.known.Statement.{statement}
-use Rattle.gate.proofs.frame.known.Tie as tie
+use Rattle.gate.proofs.frame.known.Goals as goal
 
-returns : tie.Need-returns
+-- src/frame.rt:26:1
+pub returns : goal.returns
 unfolding known
 returns c = simp (or_assoc, or-false)
-
-pub known-spec : {M : Type 1} → statement M
-known-spec = tie.close (tie.spec returns)
