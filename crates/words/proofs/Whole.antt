@@ -68,4 +68,8 @@ fresh_laid n groups table identifier e₁ e₂ e₃ =
     sets_from zeros phys first_phy (omega arith) ∙ rw size (ap (λ l. phys ++ l) fresh_store_lem) in
     let front : List ℕ = (n ∷ 0x0001 ∷ 0 ∷ 0 ∷ map (byte identifier) eight) ++ table in
     let all : front ++ phys ++ store_over zeros fresh_store ≡ words_of (fresh_shelf n groups table identifier) = simp zero-add in
-    rw (e₃, e₂, e₁, behind) (sym (append_assoc front phys (store_over zeros fresh_store)) ∙ all)
+    let head : List ℕ = n ∷ 0x0001 ∷ 0 ∷ 0 ∷ map (byte identifier) eight in
+    e₃
+    ∙ ap (λ l. head ++ table ++ drop first_phy l) (e₂ ∙ ap (λ l. sets l first_phy (phys_over l (fresh_phys n groups))) e₁)
+    ∙ ap (λ l. head ++ table ++ l) behind
+    ∙ (sym (append_assoc front phys (store_over zeros fresh_store)) ∙ all)
