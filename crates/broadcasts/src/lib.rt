@@ -27,15 +27,15 @@ use words::read::{low16, phy_at, row};
 // One count of the list, as descriptor n, unless it is 0: "Every non-zero count". Gives how many
 // descriptors there are now.
 fn list(out: &mut [u8], n: u8, phy: u8, reason: u8, count: u16) -> u8
-    requires least_buffer_in_bounds { least_buffer ≤ length out.old }
-    requires n_bound { n ≤ 48 }
+    requires room { least_buffer ≤ length out.old }
+    requires few { n ≤ 48 }
     ensures { Lists broadcast_list out.old n (listed phy reason count) result out.new }
 {
     if count == 0 {
         return n;
     }
     let at = 8 + 8 * (n as usize);
-    bytes::copy(&broadcast_descriptor(phy, reason, count), &mut out[at..]);
+    out[at..at + 8].copy_from_slice(&broadcast_descriptor(phy, reason, count));
     n + 1
 }
 
@@ -53,8 +53,8 @@ fn list_device(out: &mut [u8], kind: u8, expander3: u16, ses0: u16) -> u8
 
 // The counts of one phy: "Change reason 0h, Expander 1h and 2h", from descriptor n on.
 fn list_phy(out: &mut [u8], n: u8, kind: u8, phy: u8, numbers: Phy) -> u8
-    requires least_buffer_in_bounds { least_buffer ≤ length out.old }
-    requires n_bound { n ≤ 47 }
+    requires room { least_buffer ≤ length out.old }
+    requires few { n ≤ 47 }
     ensures { Lists broadcast_list out.old n (phy_listed kind phy numbers) result out.new }
 {
     match kind {
@@ -69,8 +69,8 @@ fn list_phy(out: &mut [u8], n: u8, kind: u8, phy: u8, numbers: Phy) -> u8
 
 // .. if the source sees the phy: "A source sees FFh and the phys it reaches."
 fn list_seen(out: &mut [u8], n: u8, row: u32, kind: u8, phy: u8, numbers: Phy) -> u8
-    requires least_buffer_in_bounds { least_buffer ≤ length out.old }
-    requires n_bound { n ≤ 47 }
+    requires room { least_buffer ≤ length out.old }
+    requires few { n ≤ 47 }
     ensures { Lists broadcast_list out.old n (seen_listed row kind phy numbers) result out.new }
 {
     if !smp_row_reaches(row, numbers.group) {
@@ -110,6 +110,6 @@ pub fn report_broadcast(words: &[u32; WORDS], source: u32, kind: u8, out: &mut [
         return 0;
     }
     let n = list_all(words, source, kind, out);
-    bytes::copy(&broadcast_head(low16(words[1]), kind, n), out);
+    out[..8].copy_from_slice(&broadcast_head(low16(words[1]), kind, n));
     8 + 8 * (n as usize)
 }

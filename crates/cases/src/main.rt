@@ -11,28 +11,31 @@ mod run;
 
 use run::run_line;
 use script::shelf_w::shelf_w;
+use std::io;
+use std::io::Read;
 use words::WORDS;
 
 // Runs a script line by line. A line ends at a newline or at the end of the script, and the shelf
 // goes on from line to line.
-fn run_script(script: &[u8]) {
+fn run_script(rt: &impl Print, script: &[u8]) -> io::Result<()> {
     let mut words = [0u32; WORDS];
     shelf_w(&mut words);
     let mut from = 0;
     for i in 0..script.len() {
         if script[i] == b'\n' {
-            run_line(&mut words, &script[from..i]);
+            run_line(rt, &mut words, &script[from..i])?;
             from = i + 1;
         }
     }
     if from < script.len() {
-        run_line(&mut words, &script[from..]);
+        run_line(rt, &mut words, &script[from..])?;
     }
+    Ok(())
 }
 
-// A script longer than the buffer is cut, and then the output is not the one stored.
-fn main() {
-    let mut script = io::large_buffer();
-    let n = io::read_full(libc::STDIN_FILENO, &mut script);
-    run_script(&script[..n]);
+// A script longer than 65,536 bytes is cut, and then the output is not the one stored.
+fn main(rt: HostRuntime) -> io::Result<()> {
+    let mut script = Vec::new(rt.alloc());
+    rt.reader().take(65_536).read_to_end(&mut script)?;
+    run_script(&rt, &script)
 }

@@ -7,6 +7,7 @@ use script::line::{read_asked, read_hex};
 use script::text::Reading;
 use server::serve;
 use spelling::part::at_most;
+use std::io;
 use words::WORDS;
 
 // A frame that was read: how many bytes it has, and whether the line is a request.
@@ -36,33 +37,40 @@ fn read_frame(line: &[u8], from: Reading, frame: &mut [u8]) -> Frame
 // Serves the first bytes of the frame with the first bytes of the buffer, and writes the response, which
 // stands in the buffer, or the refusal.
 fn ask(
+    rt: &impl Print,
     words: &mut [u32; WORDS],
     source: u32,
     frame: &[u8],
     length: usize,
     buffer: &mut [u8],
     room: u32,
-) {
+) -> io::Result<()> {
     let n = at_most(length, frame);
     let k = at_most(room as usize, buffer);
     match serve(words, source, &frame[..n], &mut buffer[..k]) {
         Answer::Response(size) => {
             let sent = at_most(size, buffer);
-            print_response(&buffer[..sent])
+            print_response(rt, &buffer[..sent])
         }
-        Answer::NoResponse(house) => print_house(house),
+        Answer::NoResponse(house) => print_house(rt, house),
     }
 }
 
 // `from 8: 40 14 00 ..`, `from 1, buffer of 1027: 40 ..`. The buffer is full of EEh, which is in no stored
 // response, so a byte that the server did not write would show.
-pub(crate) fn run_request(words: &mut [u32; WORDS], line: &[u8], from: Reading) {
+pub(crate) fn run_request(
+    rt: &impl Print,
+    words: &mut [u32; WORDS],
+    line: &[u8],
+    from: Reading,
+) -> io::Result<()> {
     let asked = read_asked(line, from);
     let mut bytes = [0u8; 1100];
     let frame = read_frame(line, asked, &mut bytes);
     if frame.fits & (asked.third <= 2048) {
         let mut buffer = [0xEEu8; 2048];
-        ask(
+        return ask(
+            rt,
             words,
             asked.second,
             &bytes,
@@ -70,7 +78,6 @@ pub(crate) fn run_request(words: &mut [u32; WORDS], line: &[u8], from: Reading) 
             &mut buffer,
             asked.third,
         );
-        return;
     }
-    print_unreadable();
+    print_unreadable(rt)
 }

@@ -75,12 +75,12 @@ fn first_index(last: u16, n: u32) -> u16
 
 // One entry of the list, as descriptor n.
 fn list(out: &mut [u8], n: u32, e: Entry)
-    requires least_buffer_in_bounds { least_buffer ≤ length out.old }
-    requires n_bound { n ≤ 31 }
+    requires room { least_buffer ≤ length out.old }
+    requires few { n ≤ 31 }
     ensures { Lists entry_list out.old n (e ∷ []) (n + 1) out.new }
 {
     let at = 12 + 12 * (n as usize);
-    bytes::copy(&entry_descriptor(e), &mut out[at..]);
+    out[at..at + 12].copy_from_slice(&entry_descriptor(e));
 }
 
 // Where entry i of the last n stands, "oldest first": they stand in a row that goes round, and end before the place of the
@@ -94,8 +94,8 @@ fn place_of(stores: u32, n: u32, i: u32) -> u32
 
 // The last n entries: "The list runs in stored order to the newest."
 fn list_last(words: &[u32; WORDS], n: u32, out: &mut [u8])
-    requires least_buffer_in_bounds { least_buffer ≤ length out.old }
-    requires n_bound { n ≤ kept (shelf_of words.now).store }
+    requires room { least_buffer ≤ length out.old }
+    requires stored { n ≤ kept (shelf_of words.now).store }
     ensures { Lists entry_list out.old 0 (drop (kept (shelf_of words.now).store - n) (entries (shelf_of words.now).store))
         n out.new }
 {
@@ -144,6 +144,6 @@ pub fn report_phy_event_list(words: &[u32; WORDS], start: u16, out: &mut [u8]) -
     let last = last(words);
     let first = first_index(last, n);
     let head = event_list_head(low16(words[1]), first, last, n as u8);
-    bytes::copy(&head, out);
+    out[..12].copy_from_slice(&head);
     12 + 12 * (n as usize)
 }

@@ -10,7 +10,7 @@ pub(crate) fn lay(frame: &mut [u8], at: usize, bytes: &[u8])
     requires { at + length bytes.now ≤ length frame.old }
     ensures { Lays frame.old at bytes.now frame.new }
 {
-    bytes::copy(bytes, &mut frame[at..]);
+    frame[at..at + bytes.len()].copy_from_slice(bytes);
 }
 
 pub(crate) fn lay_byte(frame: &mut [u8], at: usize, n: u8)

@@ -28,10 +28,8 @@ pub(crate) fn serve_general(words: &[u32; WORDS], out: &mut [u8]) -> usize
         result out.new }
 {
     let number = phy_number(words[0]) as u8;
-    bytes::copy(
-        &report_general(changes(words), number, identifier(words)),
-        out,
-    )
+    out[..36].copy_from_slice(&report_general(changes(words), number, identifier(words)));
+    36
 }
 
 // 01h
@@ -39,7 +37,8 @@ pub(crate) fn serve_manufacturer(words: &[u32; WORDS], out: &mut [u8]) -> usize
     requires { least_buffer ≤ length out.old }
     ensures { Answers out.old (report_manufacturer (shelf_of words.now).changes) result out.new }
 {
-    bytes::copy(&report_manufacturer(changes(words)), out)
+    out[..60].copy_from_slice(&report_manufacturer(changes(words)));
+    60
 }
 
 // 06h
@@ -85,10 +84,12 @@ pub(crate) fn serve_error_log(
     let FunctionResult::Accepted = result else {
         return send_result(function, result, out);
     };
-    bytes::copy(
-        &report_phy_error_log(changes(words), phy, phy_at(words, phy as u32)),
-        out,
-    )
+    out[..28].copy_from_slice(&report_phy_error_log(
+        changes(words),
+        phy,
+        phy_at(words, phy as u32),
+    ));
+    28
 }
 
 // 14h
@@ -108,10 +109,8 @@ pub(crate) fn serve_phy_event(
     let FunctionResult::Accepted = result else {
         return send_result(function, result, out);
     };
-    bytes::copy(
-        &report_phy_event(changes(words), phy, phy_at(words, phy as u32)),
-        out,
-    )
+    out[..64].copy_from_slice(&report_phy_event(changes(words), phy, phy_at(words, phy as u32)));
+    64
 }
 
 // 21h, #101: "only source group 1 may ask"

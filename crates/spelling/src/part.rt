@@ -4,8 +4,8 @@ ghost use Rattle.spelling.specs.Part.{Counts};
 
 // This many of the bytes, or all of them where there are fewer: so the first of them can be lent.
 pub fn at_most(n: usize, bytes: &[u8]) -> usize
-    ensures counts { Counts result bytes.now }
-    ensures value { result ≡ min n (length bytes.now) }
+    ensures size { Counts result bytes.now }
+    ensures smaller { result ≡ min n (length bytes.now) }
 {
     if n < bytes.len() { n } else { bytes.len() }
 }
