@@ -1,16 +1,11 @@
 -- `writes::control::controlled` meets its contract: at each operation that it names the definition is left with that
 -- operation's own record, and at every other with the one before. Assumes nothing.
-use borrow.Author.Rules.{rules}
-use borrow.Author.Tests.{ne_eqb}
-use Prim.Native.Nat.{ℕ}
-use mathlib.Core.Path.{◌≡◌}
-use mathlib.Core.Bool.{true, false}
+use Rattle.std.proofs.Common.{◌≡◌, ℕ, true, false, arith, ne_eqb}
 use Rattle.model.specs.declared.Effect.{Effect}
 use Rattle.model.specs.declared.Phy.{Phy}
 use Rattle.model.specs.Counting.{quiet, change_on}
 use Rattle.model.specs.Writes.{controlled}
-use Rattle.writes.proofs.control.controlled.Statement.{statement}
-use Rattle.writes.proofs.control.controlled.Tie as tie
+use Rattle.writes.proofs.control.controlled.Goals as goal
 
 -- A link reset, and a disable of a phy that is disabled. They are found by `search`, so that one which does not say that it originated
 -- Change, or says so, is refused at the claim.
@@ -23,25 +18,22 @@ module _ (operation : ℕ) (x : Phy) {after : Effect} where
   unfolding controlled
   disabled is-disable was-disabled is-quiet = rw (is-quiet, is-disable, was-disabled)
 
-returns : tie.Need-returns
-returns c = search reset
+pub returns-in-1 : goal.returns-in-1
+returns-in-1 c = search reset
 
-returns-2 : tie.Need-returns-2
+pub returns-then-before : goal.returns-then-before
 unfolding controlled change_on
-returns-2 c = rw (c.before.before.match.keys2, c.before.if1.true, c.change-on2.ensures)
+returns-then-before c = rw (c.in-3.is, c.if-before.true, c.change_on-then-before.ensures)
 
-returns-3 : tie.Need-returns-3
-returns-3 c = search disabled
+pub returns-else-before : goal.returns-else-before
+returns-else-before c = search disabled
 
-returns-4 : tie.Need-returns-4
+pub returns-in-5 : goal.returns-in-5
 unfolding controlled
-returns-4 c = rw (c.before.before.match.keys3, c.quiet2.ensures, c.before.without-errors.ensures)
+returns-in-5 c = rw (c.in-5.is, c.quiet-in-5.ensures, c.without_errors.ensures)
 
-returns-5 : tie.Need-returns-5
+pub returns-in_default : goal.returns-in_default
 unfolding controlled
-returns-5 c =
-    let rest = c.before.match.rest in
-    simp (ne_eqb _ _ rest.0.0.1, ne_eqb _ _ rest.0.1, ne_eqb _ _ rest.1, c.quiet3.ensures)
-
-pub controlled-spec : {M : Type 1} → statement M
-controlled-spec = tie.close (tie.spec (search rules) (search rules) (search rules) (search rules) (search rules) (search rules) returns returns-2 returns-3 returns-4 returns-5)
+returns-in_default c =
+    let o = c.args.operation in
+    simp (ne_eqb o 0x01 (omega arith), ne_eqb o 0x03 (omega arith), ne_eqb o 0x05 (omega arith), c.quiet-in_default.ensures)
