@@ -1,6 +1,6 @@
 -- `writes::descriptors::first_unsupported` meets its contract. The loop's invariant: the descriptors passed are allowed, so
 -- that the first unsupported one is that of those left. The measure is how many are left. Assumes nothing.
-use Rattle.std.proofs.Common.{◌≡◌, ℕ, suc, ◌+◌, ◌-◌, ◌≤◌, ◌<◌, Bool, cond, List, sym, ◌∙◌, add-one, arith}
+use Rattle.std.proofs.Common.{◌≡◌, ℕ, suc, ◌+◌, ◌-◌, ◌<◌, Bool, cond, List, sym, ◌∙◌, add-one, arith}
 use native.Mathlib.Nat.{sub-zero}
 use Rattle.model.specs.Request.{descriptor_source, allowed, first_unsupported}
 use Rattle.writes.proofs.descriptors.first_unsupported.Goals as goal
