@@ -1,7 +1,7 @@
 -- `gate::frame::asked` meets its contract: at each function the definition is left with that function's own request.
 -- Assumes nothing.
 use borrow.Author.Tests.{ne_eqb}
-use Rattle.std.proofs.Common.{◌≡◌, sym, ◌∙◌, arith}
+use Rattle.std.proofs.Common.{sym, ◌∙◌, arith}
 use native.Mathlib.Nat.{div-one}
 use Rattle.model.specs.Request.{asked}
 use Rattle.gate.proofs.frame.asked.Goals as goal

@@ -1,5 +1,5 @@
 -- `gate::frame::judge` meets its contract: the tests in their order are those of the definition. Assumes nothing.
-use Rattle.std.proofs.Common.{◌≡◌, sym, ◌∙◌}
+use Rattle.std.proofs.Common.{sym, ◌∙◌}
 use Rattle.model.specs.Request.{judge}
 use Rattle.gate.proofs.frame.judge.Goals as goal
 

@@ -1,7 +1,7 @@
 -- `gate::frame::length_right` meets its contract: at each function that the definition names its own line alone is left of
 -- it, and at every other none. Assumes nothing.
 use borrow.Author.Tests.{ne_eqb}
-use Rattle.std.proofs.Common.{◌≡◌, sym, ◌∙◌, arith}
+use Rattle.std.proofs.Common.{sym, ◌∙◌, arith}
 use mathlib.Core.Bool.{or-false}
 use Rattle.model.specs.Request.{length_right}
 use Rattle.gate.proofs.frame.length_right.Goals as goal
