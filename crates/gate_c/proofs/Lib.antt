@@ -1,0 +1,2 @@
+-- Each public promise settles its outcome.
+pub mod Settled
