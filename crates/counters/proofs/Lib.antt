@@ -1,5 +1,6 @@
--- How a function's proof is written, here and in writes: `tie.spec` takes a proof of each need, in the order of the code. `(search needs)`
--- in its place stands for a need that the toolchain's search closes; what the search leaves is proved above, under the need's name.
+-- How a function's proof is written, here and in writes: its `Answers.antt` proves each goal that the toolchain's search leaves, under the
+-- goal's name, and where there is a loop `Invariants.antt` has what holds at each turn. A function without such a file is proved by the
+-- search alone.
 
 -- Facts that two proofs use.
 pub mod Crossings
