@@ -1,2 +1,3 @@
--- Each public promise settles its outcome.
+-- Each public promise settles its outcome, and is that of the function of `host` that has its name.
 pub mod Settled
+pub mod Same
