@@ -2,17 +2,17 @@
 use Prim.Native.Nat.{ℕ, ◌+◌, ◌-◌, ◌*◌, ◌≤◌}
 use native.Mathlib.Nat.{mul-zero, mul-add}
 use native.Mathlib.Omega.{arith}
-use mathlib.Core.Path.{◌≡◌, refl, ap, ◌∙◌}
+use mathlib.Core.Path.{◌≡◌, refl, sym, ap, ◌∙◌}
 use mathlib.Core.List.{List, [], ◌∷◌, ◌++◌, append_assoc, append-nil}
 use lib.ListN.{length, take, drop, length-append}
-use lib.Seq.{sets-eq, length-sets, length-take-le, take-length, drop_at}
+use lib.Seq.{sets-eq, length-sets, length-take-le, drop_at}
 use Rattle.model.specs.Reply.{descriptors}
 use Rattle.model.specs.Server.{least_buffer, over}
 use Rattle.model.proofs.Laws.Places.{sets_append}
 use Rattle.model.proofs.Plain.Reply.{descriptors_length}
 use Rattle.replies.specs.Listed.{Layout, begins, listed_from, Lists}
 use Rattle.replies.specs.Sent.{Sent}
-use Rattle.replies.proofs.Laid.{copied, laid_over_lem}
+use Rattle.replies.proofs.Laid.{laid_over_lem}
 use Rattle.replies.proofs.Room.{has_room}
 use borrow.Rule.Slice.PartMut.{put_mid}
 
@@ -31,7 +31,7 @@ module _ {A : Type 0} (list : Layout A) (xs : List A) where
 
   -- the head laid over the front of the list makes the frame, and the old rest stands behind it
   headed : (out front : List ℕ) → length front ≡ list.head → begins list (length xs) ≤ length out
-      → take (length front) front ++ drop (length front) (listed_from list out 0 xs) ≡ over out (front ++ bytes)
+      → front ++ drop list.head (listed_from list out 0 xs) ≡ over out (front ++ bytes)
   headed out front long room =
       let fits : list.head + length bytes ≤ length out = omega (arith, bytes_length) in
       let first : begins list 0 ≡ list.head = omega (arith, mul-zero list.size) in
@@ -39,7 +39,7 @@ module _ {A : Type 0} (list : Layout A) (xs : List A) where
       let behind : drop list.head (listed_from list out 0 xs) ≡ bytes ++ rest =
       rw (first, sets-eq bytes out list.head fits, append_assoc (take list.head out) bytes rest)
       (drop_at (take list.head out) (bytes ++ rest) list.head (length-take-le list.head out (omega arith))) in
-      rw (take-length, length-append, long, behind, append_assoc)
+      rw (length-append, long, behind, append_assoc)
 
 module _ {A : Type 0} {list : Layout A} where
   pub lists_none : {out : List ℕ} {n : ℕ} → Lists list out n [] n out
@@ -47,12 +47,15 @@ module _ {A : Type 0} {list : Layout A} where
   lists_none = record { many = omega arith; holds = refl }
 
   -- one descriptor, of which is known that it was copied into the part from its place on, and that it is a definition's
-  pub lists_one : {out known part : List ℕ} {n : ℕ} (x : A) → begins list n + length known ≤ length out
-      → part ≡ copied out known (begins list n) → known ≡ list.bytes x
-      → Lists list out n (x ∷ []) (n + 1) (put_mid (begins list n) (length out - begins list n) out part)
+  pub lists_one : {out known part : List ℕ} {n : ℕ} (x : A) → begins list n + list.size ≤ length out
+      → part ≡ known → known ≡ list.bytes x
+      → Lists list out n (x ∷ []) (n + 1) (put_mid (begins list n) (begins list n + list.size - begins list n) out part)
   unfolding descriptors
-  lists_one {out} {known} {n} x fits put is =
-      record { many = refl; holds = rw (put, laid_over_lem out known (begins list n) fits, is, append-nil) }
+  lists_one {out} {n} x fits put is =
+      let at = begins list n in
+      let long = list.each x in
+      let of_size = ap (λ (k : ℕ). put_mid at (at + k - at) out (list.bytes x)) (sym long) in
+      record { many = refl; holds = rw (put, is, append-nil) (of_size ∙ laid_over_lem out (list.bytes x) at (omega arith)) }
 
   -- the descriptors of xs from n on, and then those of ys from there on
   pub lists_append : {out out' out'' : List ℕ} {n n' n'' : ℕ} {xs ys : List A}
@@ -72,7 +75,7 @@ module _ {A : Type 0} {list : Layout A} where
   -- So the response has been sent. Of the head is known that it was copied to the front, and that it is a definition's.
   pub list_sent : {out front known listed after : List ℕ} {n size : ℕ} {xs : List A} → least_buffer ≤ length out
       → begins list (length xs) ≤ length out → Lists list out 0 xs n listed
-      → front ≡ known → length known ≡ list.head → after ≡ take (length front) front ++ drop (length front) listed
+      → front ≡ known → length known ≡ list.head → after ≡ front ++ drop list.head listed
       → size ≡ begins list n
       → Sent out (known ++ descriptors list.bytes xs) size after
   list_sent {out} {front} {known} {n} {xs} room fits lists is long put size =
