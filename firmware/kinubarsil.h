@@ -3,11 +3,11 @@
  *
  * It is written in Rattle and proved (crates/host): each function returns exactly what its
  * definition says, and leaves the shelf and the lent buffer exactly as defined, for every argument
- * that keeps what is asked of C below, in refusals too. `rt staticlib host` writes
- * target/staticlib/libhost.a, for x86-64, which holds them and refers to memset alone.
- * Nothing is kept between two calls but the shelf, and nothing is allocated. The two parts that need
- * no device (smp_gate.h) are in an archive of their own, libgate.a, which is linked beside this one
- * where they are wanted (shelf_day.c does so).
+ * that keeps what is asked of C below, in refusals too. `.ci/build host` proves them and writes
+ * target/staticlib/libhost.a, for x86-64, which holds them (crates/host_c) and refers to memset
+ * alone. Nothing is kept between two calls but the shelf, and nothing is allocated. The two parts
+ * that need no device (smp_gate.h) are in an archive of their own, libgate.a, which is linked beside
+ * this one where they are wanted (shelf_day.c does so).
  *
  * The proof is of the Rattle source. It covers neither the compiler's back end nor this header,
  * which nothing compares with that source: tests/run tries both.
@@ -27,7 +27,7 @@ extern "C" {
 #endif
 
 /* The shelf in C's memory: 678 words of 32 bits and nothing between them, so that the server may
- * read it as such. The definition of the shelf that the words stand for is shelfOf in
+ * read it as such. The definition of the shelf that the words stand for is shelf_of in
  * crates/words/specs/Words.antt.
  *
  * A number that is narrower than 32 bits stands in the low bits of its word; its width is beside

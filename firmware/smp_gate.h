@@ -2,9 +2,10 @@
  * judging one request frame alone, and the row test of the permission table.
  *
  * They are written in Rattle and proved (crates/gate): each returns exactly what its definition
- * says, for every argument that keeps what is asked of C below. `rt staticlib gate` writes
- * target/staticlib/libgate.a, for x86-64, which holds them and refers to no other library. Neither
- * keeps anything between two calls, allocates, or writes to memory of the caller's.
+ * says, for every argument that keeps what is asked of C below. `.ci/build gate` proves them and
+ * writes target/staticlib/libgate.a, for x86-64, which holds them (crates/gate_c) and refers to no
+ * other library. Neither keeps anything between two calls, allocates, or writes to memory of the
+ * caller's.
  *
  * The proof is of the Rattle source. It covers neither the compiler's back end nor this header,
  * which nothing compares with that source: firmware/run tries both.
@@ -31,7 +32,7 @@ extern "C" {
  * size    how many bytes came, and never more than are readable. A frame of any length is judged.
  *
  * The answer is one number in four parts of 8 bits, which the smp_told_ functions below take out.
- * The definition is frameNumber in crates/gate/specs/FrameNumber.antt.
+ * The definition is frame_number in crates/gate/specs/FrameNumber.antt.
  */
 uint32_t smp_judge_frame(const uint8_t *frame, size_t size);
 
@@ -43,7 +44,7 @@ static inline uint8_t smp_told_function(uint32_t told) { return (uint8_t)(told &
 static inline uint8_t smp_told_result(uint32_t told) { return (uint8_t)(told >> 8 & 0xFF); }
 
 /* Bits 16 to 23: the number of the house refusal that the frame draws, 6 for H6 or 10 for H10; 0 where
- * it draws neither. It can be no other number (house-read in crates/gate/proofs/Parts.antt). */
+ * it draws neither. It can be no other number (house_read in crates/gate/proofs/Parts.antt). */
 static inline uint8_t smp_told_house(uint32_t told) { return (uint8_t)(told >> 16 & 0xFF); }
 
 /* Bits 24 to 31: whether there is a function to tell. A frame under four bytes, H6, has none; a frame
@@ -56,7 +57,7 @@ static inline bool smp_told_nothing_wrong(uint32_t told) { return (told & 0x00FF
 
 /* Whether a row of the permission table reaches a zone group: the row's bit of that group, and no
  * for a group above 31. The group is not cut to five bits, nor to eight. The definition is
- * rowReaches in crates/model/specs/Zone.antt.
+ * row_reaches in crates/model/specs/Zone.antt.
  */
 bool smp_row_reaches(uint32_t row, uint32_t group);
 
