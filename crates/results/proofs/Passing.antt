@@ -2,9 +2,6 @@
 use Prim.Native.Nat.{ℕ}
 use mathlib.Core.Path.{◌≡◌, refl, sym, ap, ◌∙◌}
 use mathlib.Core.Bool.{Bool, true, false, true≢false, false≢true}
-use mathlib.Core.List.{List, [], ◌∷◌}
-use types.Run.{OneOf, miss}
-use denote.Enum.Declared.{tag_of}
 use Rattle.model.specs.declared.FunctionResult.{FunctionResult}
 use Rattle.model.specs.declared.FunctionResult.TheVariants.{Accepted, UnknownSmpFunction, SmpFunctionFailed}
 use Rattle.model.specs.declared.FunctionResult.TheVariants.{InvalidRequestFrameLength}
@@ -15,18 +12,13 @@ use Rattle.model.specs.declared.FunctionResult.TheVariants.{NoManagementAccessRi
 use Rattle.model.specs.declared.Grounds.{Grounds}
 use Rattle.model.specs.Results.{accepted, count_right, check_write}
 use Rattle.model.specs.Tests.{check}
-use Rattle.model.specs.contracts.FunctionResult.{the_type}
 
--- the variants but `Accepted`, by their places in the enum
-abbrev others : List ℕ
-others = 1 ∷ 2 ∷ 3 ∷ 4 ∷ 5 ∷ 6 ∷ 7 ∷ 8 ∷ 9 ∷ 10 ∷ []
-
--- what the `else` of a `let FunctionResult::Accepted = ..` knows: one of the other variants stands there
+-- what the `else` of a `let FunctionResult::Accepted = ..` knows: another variant stands there
 abbrev pub Other : FunctionResult → Type 0
-Other result = OneOf others (tag_of the_type result)
+Other result = result ≡ Accepted → ⊥
 
 pub not_accepted : (result : FunctionResult) → Other result → accepted result ≡ false
-not_accepted Accepted e = absurd (miss others 0 tt e)
+not_accepted Accepted e = absurd (e refl)
 not_accepted UnknownSmpFunction e = refl
 not_accepted SmpFunctionFailed e = refl
 not_accepted InvalidRequestFrameLength e = refl

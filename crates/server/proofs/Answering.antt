@@ -2,11 +2,10 @@
 -- after a write.
 -- Assumes nothing.
 use Prim.Native.Nat.{ℕ, ◌≤◌}
-use mathlib.Core.Path.{◌≡◌, sym, ap, ◌∙◌}
+use mathlib.Core.Path.{◌≡◌, sym, ◌∙◌}
 use mathlib.Core.Bool.{Bool, true, false, cond}
-use mathlib.Core.List.{List, ◌++◌}
-use lib.ListN.{length, take, drop}
-use lib.Seq.{take-length}
+use mathlib.Core.List.{List}
+use lib.ListN.{length}
 use Rattle.model.specs.declared.FunctionResult.{FunctionResult}
 use Rattle.model.specs.declared.FunctionResult.TheVariants.{Accepted}
 use Rattle.model.specs.declared.Phy.{Phy}
@@ -26,9 +25,9 @@ use Rattle.words.proofs.Laying.{laid_same}
 use Rattle.server.specs.Answers.{Answers, leaves_words}
 
 -- what `copy` tells of bytes that are known as a definition's
-pub copied : (out : List ℕ) {bytes known after : List ℕ} {size : ℕ} → size ≡ length bytes
-    → after ≡ take (length bytes) bytes ++ drop (length bytes) out → bytes ≡ known → Answers out known size after
-copied out {bytes} s a k = (s ∙ ap length k, a ∙ rw (take-length bytes, k))
+pub copied : (out : List ℕ) {bytes known after : List ℕ} {size : ℕ} → Answers out bytes size after → bytes ≡ known
+    → Answers out known size after
+copied out answers k = rw k at answers
 
 -- what was sent into a buffer with room
 pub sent_all : (out bytes : List ℕ) {after : List ℕ} {size : ℕ} → least_buffer ≤ length out → Sent out bytes size after
@@ -53,10 +52,9 @@ module _ (s : Shelf) (g : ℕ) (request : Request) (function : ℕ) {result know
   -- the response of a read of phy p: a report that is made of the change count and of the phy's record
   pub reports : (p : ℕ) (report : ℕ → ℕ → Phy → List ℕ) → respond s g request ≡ report s.changes p (phy_at s p) → result ≡ Accepted
       → {changes : ℕ} {x : Phy} {bytes after : List ℕ} {size : ℕ} → changes ≡ s.changes → x ≡ phy_at s p → bytes ≡ report changes p x
-      → size ≡ length bytes → after ≡ take (length bytes) bytes ++ drop (length bytes) out
-      → Answers out (drawn s g request function known) size after
-  reports p report responds accepted count read made size after =
-      grants accepted (copied out {known = respond s g request} size after (made ∙ rw (count, read) (sym responds)))
+      → Answers out bytes size after → Answers out (drawn s g request function known) size after
+  reports p report responds accepted count read made answers =
+      grants accepted (copied out {known = respond s g request} answers (made ∙ rw (count, read) (sym responds)))
 
 -- A write, in a buffer with room: it fails, and the words are as they were; or it is accepted, and they are those of the shelf with its
 -- effect.

@@ -1,5 +1,5 @@
 -- What the type `Effect` says of an effect that a call gave: four marks, and four monitors whose sources have 8 bits. `Is` of the toolchain
--- says that machine values are those of a value at its type; a proof has it of what each call gives (`ok`). Assumes nothing.
+-- says that machine values are those of a value at its type; a proof has it of what each call gives (`type_inv`). Assumes nothing.
 use Prim.Native.Nat.{◌≤◌}
 use native.Mathlib.Omega.{arith}
 use mathlib.Core.Path.{◌≡◌, sym, ◌∙◌}
@@ -7,8 +7,9 @@ use mathlib.Core.List.{List, [], ◌∷◌, map}
 use lib.ListN.{length, length-map}
 use mir.Val.{Val}
 use denote.Array.{each}
+use denote.Builtin.{Array, bool}
 use denote.Shadow.{shadow}
-use denote.Struct.Field.{array_field, bool-field}
+use denote.Struct.Field.{row_field}
 use Rattle.model.specs.declared.Effect.{Effect}
 use Rattle.model.specs.declared.Monitor.{Monitor}
 use Rattle.model.specs.contracts.Effect as the_effect
@@ -21,21 +22,21 @@ pub record Typed (e : Effect) : Type 0 where
   pub narrow : All (λ m. m.source ≤ 0xFF) e.monitors
 
 monitors_narrow : (ms : List Monitor) (vs : List Val)
-    → shadow (each (the_monitor.the_field).row.Denot (the_monitor.the_field).row.own_val (map (the_monitor.the_type).to ms) vs)
+    → shadow (each (the_monitor.the_row).Denot (the_monitor.the_row).own_val ms vs)
     → All (λ m. m.source ≤ 0xFF) ms
 monitors_narrow [] vs is = tt
 monitors_narrow (m ∷ ms) [] is = absurd is
 monitors_narrow (m ∷ ms) (v ∷ vs) is = (omega (arith, is.0.1.1.0.1), monitors_narrow ms vs is.1)
 
--- with r for what the call gave, and its `ok`, this is `typed r ok.1.1.1.1`; where the effect is r's first field,
+-- with r for what the call gave, and its `type_inv` ok, this is `typed r ok.1.1.1.1`; where the effect is r's first field,
 -- `typed r.effect ok.1.1.0.1.1.1.1`
 pub typed : (e : Effect) {vs ws : List Val}
-    → shadow ((array_field the_monitor.the_field 4).row.own_val ((the_effect.the_type).to e).1.1.0 vs)
-    × (shadow ((array_field bool-field 4).row.own_val ((the_effect.the_type).to e).1.1.1.0 ws) × Unit {0})
+    → shadow ((row_field (Array the_monitor.the_row tt 4)).row.own_val ((the_effect.the_type).to e).1.1.0 vs)
+    × (shadow ((row_field (Array bool tt 4)).row.own_val ((the_effect.the_type).to e).1.1.1.0 ws) × Unit {0})
     → Typed e
 typed e is =
     record {
-      marks = sym (length-map e.stored (λ v. v)) ∙ is.1.0.1.0.1;
-      monitors = sym (length-map e.monitors (the_monitor.the_type).to) ∙ is.0.1.0.1;
+      marks = is.1.0.1.0.1;
+      monitors = is.0.1.0.1;
       narrow = monitors_narrow e.monitors is.0.0 is.0.1.1;
     }

@@ -20,6 +20,16 @@ use shelf::phys::phy_number;
 use words::WORDS;
 use words::read::{identifier, phy_at};
 
+// Bytes, copied to the front of the lent buffer, and how many they are.
+fn copy(bytes: &[u8], out: &mut [u8]) -> usize
+    requires { length bytes.now ≤ length out.old }
+    ensures { Answers out.old bytes.now result out.new }
+{
+    let size = bytes.len();
+    out[..size].copy_from_slice(bytes);
+    size
+}
+
 // 00h
 pub(crate) fn serve_general(words: &[u32; WORDS], out: &mut [u8]) -> usize
     requires { least_buffer ≤ length out.old }
@@ -28,8 +38,10 @@ pub(crate) fn serve_general(words: &[u32; WORDS], out: &mut [u8]) -> usize
         result out.new }
 {
     let number = phy_number(words[0]) as u8;
-    out[..36].copy_from_slice(&report_general(changes(words), number, identifier(words)));
-    36
+    copy(
+        &report_general(changes(words), number, identifier(words)),
+        out,
+    )
 }
 
 // 01h
@@ -37,8 +49,7 @@ pub(crate) fn serve_manufacturer(words: &[u32; WORDS], out: &mut [u8]) -> usize
     requires { least_buffer ≤ length out.old }
     ensures { Answers out.old (report_manufacturer (shelf_of words.now).changes) result out.new }
 {
-    out[..60].copy_from_slice(&report_manufacturer(changes(words)));
-    60
+    copy(&report_manufacturer(changes(words)), out)
 }
 
 // 06h
@@ -84,12 +95,10 @@ pub(crate) fn serve_error_log(
     let FunctionResult::Accepted = result else {
         return send_result(function, result, out);
     };
-    out[..28].copy_from_slice(&report_phy_error_log(
-        changes(words),
-        phy,
-        phy_at(words, phy as u32),
-    ));
-    28
+    copy(
+        &report_phy_error_log(changes(words), phy, phy_at(words, phy as u32)),
+        out,
+    )
 }
 
 // 14h
@@ -109,8 +118,10 @@ pub(crate) fn serve_phy_event(
     let FunctionResult::Accepted = result else {
         return send_result(function, result, out);
     };
-    out[..64].copy_from_slice(&report_phy_event(changes(words), phy, phy_at(words, phy as u32)));
-    64
+    copy(
+        &report_phy_event(changes(words), phy, phy_at(words, phy as u32)),
+        out,
+    )
 }
 
 // 21h, #101: "only source group 1 may ask"
