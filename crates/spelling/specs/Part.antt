@@ -2,7 +2,6 @@
 use Rattle.std.specs.Prelude.{ℕ, ◌≤◌, ◌≡◌, List, length, take}
 
 -- n counts bytes at the start of xs. The second part follows from the first; both are stated so that they are found where the
--- first n bytes are lent. (The toolchain's `io` has the same; it is said again, since no library stands on `io`, whose contracts rest on
--- assumptions.)
+-- first n bytes are lent.
 abbrev pub Counts : ℕ → List ℕ → Type 0
 Counts n xs = (n ≤ length xs) × (n ≡ length (take n xs))
