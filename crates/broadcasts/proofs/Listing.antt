@@ -1,9 +1,9 @@
 -- A 06h is sent once its list and its head stand in the lent buffer (`Listing` of replies has the laws of the list). Assumes nothing.
 use Prim.Native.Nat.{ℕ, ◌+◌, ◌*◌, ◌≤◌}
 use native.Mathlib.Omega.{arith}
-use mathlib.Core.Path.{◌≡◌, refl}
+use mathlib.Core.Path.{◌≡◌, refl, ◌∙◌}
 use mathlib.Core.List.{List, ◌++◌}
-use lib.ListN.{length, take, drop}
+use lib.ListN.{length, drop}
 use Rattle.model.specs.declared.Shelf.{Shelf}
 use Rattle.model.specs.Reply.{broadcasts, broadcast_head, report_broadcast}
 use Rattle.model.specs.Server.{least_buffer}
@@ -13,12 +13,12 @@ use Rattle.replies.specs.Sent.{Sent}
 use Rattle.replies.proofs.Listing.{list_sent}
 use Rattle.broadcasts.specs.Listed.{broadcast_list}
 
--- Of the head is known what was copied, and that it is a definition's.
-pub report_sent : (s : Shelf) (source kind : ℕ) {out head listed after : List ℕ} {n size : ℕ} → least_buffer ≤ length out
-    → Lists broadcast_list out 0 (broadcasts s source kind) n listed → head ≡ broadcast_head s.changes kind n
-    → after ≡ take (length head) head ++ drop (length head) listed → size ≡ 8 + 8 * n
+-- Of the head is known that it was copied to the front, and that it is a definition's.
+pub report_sent : (s : Shelf) (source kind : ℕ) {out front head listed after : List ℕ} {n size : ℕ} → least_buffer ≤ length out
+    → Lists broadcast_list out 0 (broadcasts s source kind) n listed → front ≡ head → head ≡ broadcast_head s.changes kind n
+    → after ≡ front ++ drop 8 listed → size ≡ 8 + 8 * n
     → Sent out (report_broadcast s source kind) size after
 unfolding report_broadcast
-report_sent s source kind {n} room lists made put size =
+report_sent s source kind {n} room lists front made put size =
     let number : n ≡ length (broadcasts s source kind) = omega arith in
-    list_sent room (omega (arith, broadcasts_few s source kind)) lists (rw number at made) refl put size
+    list_sent room (omega (arith, broadcasts_few s source kind)) lists (front ∙ rw number at made) refl put size
