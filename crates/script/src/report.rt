@@ -24,6 +24,7 @@ pub enum ReportLine {
 }
 
 // Reads how many times, which may be left out, as the last number.
+#[tactic(auto, unfolding(crate::specs::Report::read_times))]
 fn read_times(line: &[u8], from: Reading) -> Reading
     ensures { result ≡ read_times line.now from }
 {
@@ -80,6 +81,7 @@ pub fn read_report(line: &[u8], from: Reading) -> ReportLine
 
 // Makes a report on the shelf in these words. What is told has the form of an event report's answer: a link change and a
 // notice add to no error count, and so are never cut (#104). The notices have no refusal.
+#[tactic(auto, unfolding(crate::specs::Report::make_report))]
 fn make_report(words: &mut [u32; WORDS], report: Report) -> EventAnswer
     ensures told { result ≡ (make_report words.old report).answer }
     ensures kept { words.new ≡ (make_report words.old report).words }

@@ -41,6 +41,7 @@ pub fn unread() -> Reading
 }
 
 // The value of a digit in uppercase; 255 is no digit's.
+#[tactic(auto, unfolding(crate::specs::Text::digit))]
 fn digit(byte: u8) -> u8
     ensures { result ≡ digit byte }
 {
@@ -63,6 +64,7 @@ fn capped(number: u64) -> u32
 }
 
 // A number of base 10 or 16 with one more digit.
+#[tactic(auto, unfolding(crate::specs::Text::longer))]
 fn longer(value: u32, base: u8, digit: u8) -> u32
     ensures { result ≡ longer value base digit }
 {
@@ -86,6 +88,7 @@ fn digits(line: &[u8], at: usize, base: u8) -> Number
 }
 
 // Reads a number, of at least one digit.
+#[tactic(auto, unfolding(crate::specs::Text::read_number))]
 fn read_number(line: &[u8], from: Reading, base: u8) -> Reading
     ensures { result ≡ read_number line.now from base }
 {
@@ -101,6 +104,7 @@ fn read_number(line: &[u8], from: Reading, base: u8) -> Reading
 }
 
 // Reads this very byte.
+#[tactic(auto, unfolding(crate::specs::Text::read_byte))]
 fn read_byte(line: &[u8], from: Reading, byte: u8) -> Reading
     ensures { result ≡ read_byte line.now from byte }
 {
@@ -115,6 +119,7 @@ fn read_byte(line: &[u8], from: Reading, byte: u8) -> Reading
 }
 
 // Reads what one byte of a form stands for.
+#[tactic(auto, unfolding(crate::specs::Text::read_one))]
 fn read_one(line: &[u8], from: Reading, form: u8) -> Reading
     ensures { result ≡ read_one line.now from form }
 {
