@@ -3,7 +3,7 @@ use Prim.Native.Nat.{ℕ, ◌+◌, ◌-◌, ◌*◌, ◌≤◌}
 use native.Mathlib.Omega.{arith}
 use mathlib.Core.Path.{◌≡◌, refl}
 use mathlib.Core.List.{List, ◌++◌}
-use lib.ListN.{length, take, drop}
+use lib.ListN.{length, drop}
 use Rattle.model.specs.declared.Store.{Store}
 use Rattle.model.specs.Reply.{event_list_head, report_phy_event_list}
 use Rattle.model.specs.Server.{least_buffer}
@@ -18,7 +18,7 @@ use Rattle.peaks.specs.Listed.{entry_list}
 pub report_sent : (changes : ℕ) (k : Store) (start : ℕ) {out head listed after : List ℕ} {told first last n size : ℕ}
     → least_buffer ≤ length out → ByNumber k start n → Lists entry_list out 0 (drop (kept k - n) (entries k)) n listed
     → head ≡ event_list_head told first last n → told ≡ changes → first ≡ first_of last n → last ≡ k.last
-    → after ≡ take (length head) head ++ drop (length head) listed → size ≡ 12 + 12 * n
+    → after ≡ head ++ drop 12 listed → size ≡ 12 + 12 * n
     → Sent out (report_phy_event_list changes k start) size after
 unfolding report_phy_event_list
 report_sent changes k start {out} {head} {listed} {n} room given lists made count from to put size =

@@ -5,14 +5,14 @@ use native.Mathlib.Numerals.{add-one}
 use native.Mathlib.Omega.{arith}
 use mathlib.Core.Path.{◌≡◌}
 use mathlib.Core.List.{List, [], ◌∷◌}
-use lib.ListN.{length, drop}
+use lib.ListN.{drop}
 use Rattle.model.specs.declared.Entry.{Entry}
 use Rattle.model.specs.declared.Store.{Store}
 use Rattle.model.specs.Store.{entry_at, place, kept, entries}
 use Rattle.model.specs.Tests.{join_below}
 use Rattle.model.proofs.Plain.EventList.{last_entries}
 use Rattle.replies.specs.Listed.{Lists}
-use Rattle.replies.proofs.Listing.{lists_none, lists_append, lists_length}
+use Rattle.replies.proofs.Listing.{lists_none, lists_append}
 use Rattle.peaks.specs.Listed.{entry_list}
 
 -- entry i of the last n
@@ -34,10 +34,6 @@ module _ {k : Store} {n : ℕ} {out₀ : List ℕ} {i : ℕ} {out : List ℕ} (w
   walk_turn {out'} below one =
       let next : Lists entry_list out i (last_of k n i ∷ []) (suc i) out' = rw (add-one i) at one in
       rw (add-one i) (record { passed = omega arith; lists = lists_append walked.lists next })
-
-  -- listing keeps the buffer's length
-  pub walk_length : length out ≡ length out₀
-  walk_length = lists_length walked.lists
 
   pub walk_end : n ≤ kept k → n ≤ i → Lists entry_list out₀ 0 (drop (kept k - n) (entries k)) n out
   walk_end few all =
