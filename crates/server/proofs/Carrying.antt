@@ -10,7 +10,6 @@ use Rattle.model.specs.declared.Effect.{Effect}
 use Rattle.model.specs.declared.Entry.{Entry}
 use Rattle.model.specs.declared.Monitor.{Monitor}
 use Rattle.model.specs.declared.Phy.{Phy}
-use Rattle.model.specs.declared.Shelf.{Shelf}
 use Rattle.model.specs.declared.Store.{Store}
 use Rattle.model.specs.Counting.{originate_if, picked}
 use Rattle.model.specs.Shelf.{phy_at, fresh_monitor, entry_of, put, put_store}

@@ -2,11 +2,9 @@
 use Prim.Native.Nat.{ℕ, ◌≤◌, ◌<◌}
 use mathlib.Core.Path.{◌≡◌, refl, ap, ◌∙◌}
 use mathlib.Core.Bool.{Bool, true, false, cond}
-use mathlib.Core.List.{List, [], ◌∷◌}
+use mathlib.Core.List.{List}
 use borrow.Author.Tests.{lt-ltb, le-ltb}
-use denote.Enum.Declared.{tag_of}
 use lib.ListN.{length}
-use types.Run.{OneOf, miss}
 use Rattle.model.specs.declared.Answer.{Answer}
 use Rattle.model.specs.declared.Answer.TheVariants.{Response}
 use Rattle.model.specs.declared.FunctionResult.{FunctionResult}
@@ -20,18 +18,13 @@ use Rattle.model.specs.Request.{function_of, judge}
 use Rattle.model.specs.Results.{result_code, accepted, decide}
 use Rattle.model.specs.Server.{least_buffer, Handled, Sends, refuse, fail, conclude, handle_judged, handle, answer, lent, served, lent_after}
 use Rattle.model.specs.Writes.{effect}
-use Rattle.model.specs.contracts.Judged.{the_type}
 use Rattle.words.specs.Words.{shelf_of, laid_over}
 use Rattle.server.specs.Answers.{Answers}
 use Rattle.server.specs.Serving.{judged_reply, drawn, leaves}
 
--- the variants but `Asked`, by their places in the enum
-abbrev others : List ℕ
-others = 1 ∷ 2 ∷ []
-
--- what the `else` of a `let Judged::Asked(request) = ..` knows: one of the other variants stands there
+-- what the `else` of a `let Judged::Asked(request) = ..` knows: another variant stands there
 abbrev pub NotAsked : Judged → Type 0
-NotAsked judged = OneOf others (tag_of the_type judged)
+NotAsked judged = (request : Request) → judged ≡ Asked request → ⊥
 
 module _ (ws : List ℕ) (g : ℕ) (frame out : List ℕ) where
   abbrev s : Shelf
@@ -66,7 +59,7 @@ module _ (ws : List ℕ) (g : ℕ) (frame out : List ℕ) where
     -- where no request was read, the judgement is answered and the shelf stays
     turned : (judged : Judged) → NotAsked judged
         → handle_judged s g frame judged ≡ record { reply = judged_reply (function_of frame) judged; shelf = s }
-    turned (Asked request) e = absurd (miss others 0 tt e)
+    turned (Asked request) e = absurd (e request refl)
     turned (NoFrame house) e = refl
     turned (Fails result) e = refl
 

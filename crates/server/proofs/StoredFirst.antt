@@ -7,7 +7,7 @@ use mathlib.Core.Bool.{Bool, true, false}
 use mathlib.Core.List.{List, [], ◌∷◌, ◌++◌}
 use borrow.Author.Tests.{ltb-true, ltb-false}
 use lib.Dec.{ltb}
-use lib.ListN.{length, get_or, set, take, drop, length-take, length-drop, length-set, get_or-append}
+use lib.ListN.{length, set, take, length-take, length-drop, length-set, get_or-append}
 use lib.Seq.{sets, length-sets, set-append_left, take-set-lt, get_or-take}
 use Rattle.model.specs.declared.Phy.{Phy}
 use Rattle.model.specs.declared.Shelf.{Shelf}

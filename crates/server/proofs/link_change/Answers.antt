@@ -1,6 +1,6 @@
 -- `server::link_change` meets its contract: where the phy exists its effect is carried out, and where not the words stay.
 -- Assumes nothing.
-use Rattle.std.proofs.Common.{refl, sym, arith, ◌∙◌}
+use Rattle.std.proofs.Common.{sym, arith, ◌∙◌}
 use Rattle.model.specs.Reports.{link_change_on, link_change}
 use Rattle.model.specs.Shelf.{phy_at}
 use Rattle.model.proofs.Plain.Writes.{change_stores}

@@ -1,5 +1,5 @@
 -- `server::writing::serve_control` meets its contract: a failed result and the words as they were, or the full effect. Assumes nothing.
-use Rattle.std.proofs.Common.{◌≡◌, ◌≤◌, length, refl, arith}
+use Rattle.std.proofs.Common.{◌≡◌, length, refl, arith}
 use Rattle.model.specs.declared.Request.TheVariants.{PhyControl}
 use Rattle.model.specs.Reply.{respond}
 use Rattle.model.specs.Shelf.{phy_at}
