@@ -5,7 +5,8 @@ use Prim.Native.Nat.{ℕ}
 use mathlib.Core.Path.{◌≡◌, refl}
 use mathlib.Core.Bool.{Bool, true, false, cond}
 use mathlib.Core.List.{List, []}
-use denote.Ref.{Bor}
+use denote.Bor.{Bor}
+use denote.MutBor.{MutBor}
 use Rattle.model.specs.declared.Shelf.{Shelf}
 use Rattle.model.specs.declared.Taken.{Taken}
 use Rattle.model.specs.House.{taken_number}
@@ -28,9 +29,13 @@ pub record Follows (I : Interface) : Type 0 where
 
 -- ---- for the proofs of it
 
--- numbers that are lent, at some place in memory
+-- numbers that are lent to be read, at some place in memory
 abbrev pub lending : List ℕ → Bor (List ℕ)
 lending numbers = record { ref_ptr = (0, 0); now = numbers }
+
+-- .. and that are lent to be written over
+abbrev pub lending_mut : List ℕ → MutBor (List ℕ)
+lending_mut numbers = record { ref_ptr = (0, 0); ghost_name = 0; now = numbers }
 
 -- a notice, SES or the other
 pub notice_next : (s : Shelf) (ses : Bool) → cond ses (ses_notice s) (reduced_functionality s) ≡ next s (cond ses Ses ReducedFunctionality)

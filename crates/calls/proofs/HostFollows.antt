@@ -34,7 +34,7 @@ use Rattle.calls.specs.Host.{host_coded, bit31, smp_refused, smp_refusal, smp_cu
 use Rattle.calls.specs.Host.{HostCall, smp_serve_call, smp_event_call, smp_link_change_call, smp_notice_call, smp_reach_call}
 use Rattle.calls.proofs.ManyCalls.{Go}
 use Rattle.calls.proofs.OneCall.{says_cut_iff}
-use Rattle.calls.proofs.Follows.{Follows, lending, notice_next, notice_said, notice_buffer}
+use Rattle.calls.proofs.Follows.{Follows, lending, lending_mut, notice_next, notice_said, notice_buffer}
 
 -- ---- each promise
 
@@ -156,7 +156,7 @@ unfolding host_seen
 host_asks ws (Ask g frame out) = (
   smp_serve_call (record {
     lifetimes = ([], ([], ([], tt)));
-    arguments = (lending ws, (g, (lending frame, (lending out, tt))));
+    arguments = (lending_mut ws, (g, (lending frame, (lending_mut out, tt))));
     outcome = record {
       result = answer_told (served (shelf_of ws) g frame out).answer;
       lent = (laid_over ws (served (shelf_of ws) g frame out).shelf, (tt, (tt, (lent_after (shelf_of ws) g frame out, tt))));
@@ -169,7 +169,7 @@ host_asks ws (Ask g frame out) = (
 host_asks ws (Event p source amount) = (
   smp_event_call (record {
     lifetimes = ([], tt);
-    arguments = (lending ws, (p, (source, (amount, tt))));
+    arguments = (lending_mut ws, (p, (source, (amount, tt))));
     outcome = record {
       result = event_told (event (shelf_of ws) p source amount).answer;
       lent = (laid_over ws (event (shelf_of ws) p source amount).shelf, (tt, (tt, (tt, tt))));
@@ -182,7 +182,7 @@ host_asks ws (Event p source amount) = (
 host_asks ws (LinkChange p) = (
   smp_link_change_call (record {
     lifetimes = ([], tt);
-    arguments = (lending ws, (p, tt));
+    arguments = (lending_mut ws, (p, tt));
     outcome = record {
       result = taken_told (link_change (shelf_of ws) p).taken;
       lent = (laid_over ws (link_change (shelf_of ws) p).shelf, (tt, tt));
@@ -195,7 +195,7 @@ host_asks ws (LinkChange p) = (
 host_asks ws ReducedFunctionality = (
   smp_notice_call (record {
     lifetimes = ([], tt);
-    arguments = (lending ws, (false, tt));
+    arguments = (lending_mut ws, (false, tt));
     outcome = record { result = 0; lent = (laid_over ws (reduced_functionality (shelf_of ws)), (tt, tt)); promised = (refl, refl) };
   }),
   refl,
@@ -204,7 +204,7 @@ host_asks ws ReducedFunctionality = (
 host_asks ws Ses = (
   smp_notice_call (record {
     lifetimes = ([], tt);
-    arguments = (lending ws, (true, tt));
+    arguments = (lending_mut ws, (true, tt));
     outcome = record { result = 0; lent = (laid_over ws (ses_notice (shelf_of ws)), (tt, tt)); promised = (refl, refl) };
   }),
   refl,
@@ -225,7 +225,7 @@ unfolding host_started
 host_begins ws given = (
   record {
     lifetimes = ([], ([], ([], ([], tt))));
-    arguments = (lending ws, (given.number, (lending given.groups, (lending given.table, (lending given.identifier, tt)))));
+    arguments = (lending_mut ws, (given.number, (lending given.groups, (lending given.table, (lending given.identifier, tt)))));
     outcome = record {
       result = taken_told (start_of given).taken;
       lent = (started_words ws (start_of given), (tt, (tt, (tt, (tt, tt)))));

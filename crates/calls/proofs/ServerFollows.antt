@@ -15,7 +15,7 @@ use Rattle.calls.specs.Runs.{Starts}
 use Rattle.calls.specs.Server.{ServerCall, serve_call, event_call, link_change_call, notice_call, reach_query_call}
 use Rattle.calls.specs.Server.{ServerStart, server_seen, server_started, server_interface}
 use Rattle.calls.proofs.ManyCalls.{Go}
-use Rattle.calls.proofs.Follows.{Follows, lending, notice_next, notice_said, notice_buffer}
+use Rattle.calls.proofs.Follows.{Follows, lending, lending_mut, notice_next, notice_said, notice_buffer}
 
 -- ---- each promise
 
@@ -48,7 +48,7 @@ unfolding server_seen
 server_asks ws (Ask g frame out) = (
   serve_call (record {
     lifetimes = ([], ([], ([], tt)));
-    arguments = (lending ws, (g, (lending frame, (lending out, tt))));
+    arguments = (lending_mut ws, (g, (lending frame, (lending_mut out, tt))));
     outcome = record {
       result = (served (shelf_of ws) g frame out).answer;
       lent = (laid_over ws (served (shelf_of ws) g frame out).shelf, (tt, (tt, (lent_after (shelf_of ws) g frame out, tt))));
@@ -61,7 +61,7 @@ server_asks ws (Ask g frame out) = (
 server_asks ws (Event p source amount) = (
   event_call (record {
     lifetimes = ([], tt);
-    arguments = (lending ws, (p, (source, (amount, tt))));
+    arguments = (lending_mut ws, (p, (source, (amount, tt))));
     outcome = record {
       result = (event (shelf_of ws) p source amount).answer;
       lent = (laid_over ws (event (shelf_of ws) p source amount).shelf, (tt, (tt, (tt, tt))));
@@ -74,7 +74,7 @@ server_asks ws (Event p source amount) = (
 server_asks ws (LinkChange p) = (
   link_change_call (record {
     lifetimes = ([], tt);
-    arguments = (lending ws, (p, tt));
+    arguments = (lending_mut ws, (p, tt));
     outcome = record {
       result = (link_change (shelf_of ws) p).taken;
       lent = (laid_over ws (link_change (shelf_of ws) p).shelf, (tt, tt));
@@ -87,7 +87,7 @@ server_asks ws (LinkChange p) = (
 server_asks ws ReducedFunctionality = (
   notice_call (record {
     lifetimes = ([], tt);
-    arguments = (lending ws, (false, tt));
+    arguments = (lending_mut ws, (false, tt));
     outcome = record { result = tt; lent = (laid_over ws (reduced_functionality (shelf_of ws)), (tt, tt)); promised = refl };
   }),
   refl,
@@ -96,7 +96,7 @@ server_asks ws ReducedFunctionality = (
 server_asks ws Ses = (
   notice_call (record {
     lifetimes = ([], tt);
-    arguments = (lending ws, (true, tt));
+    arguments = (lending_mut ws, (true, tt));
     outcome = record { result = tt; lent = (laid_over ws (ses_notice (shelf_of ws)), (tt, tt)); promised = refl };
   }),
   refl,
@@ -117,7 +117,7 @@ unfolding server_started
 server_begins ws given = (
   record {
     lifetimes = ([], tt);
-    arguments = (lending ws, (given.number, (given.groups, (given.table, (given.identifier, tt)))));
+    arguments = (lending_mut ws, (given.number, (given.groups, (given.table, (given.identifier, tt)))));
     outcome = record {
       result = (start_of given).taken;
       lent = (started_words ws (start_of given), (tt, (tt, (tt, (tt, tt)))));
