@@ -38,7 +38,6 @@ pub fn line_kind(line: &[u8]) -> Line
 
 // Reads `from 8:` or `from 1, buffer of 1027:`: the source group and the length of the lent buffer, which
 // is the least that H5 allows where it is left out, as the last two numbers.
-#[tactic(auto, unfolding(crate::specs::Line::read_asked))]
 pub fn read_asked(line: &[u8], from: Reading) -> Reading
     ensures { result ≡ read_asked line.now from }
 {
@@ -54,7 +53,6 @@ pub fn read_asked(line: &[u8], from: Reading) -> Reading
 }
 
 // Reads one byte of a frame, as the last number.
-#[tactic(auto, unfolding(crate::specs::Line::read_hex))]
 pub fn read_hex(line: &[u8], from: Reading) -> Reading
     ensures { result ≡ read_hex line.now from }
 {
