@@ -119,6 +119,7 @@ pub(crate) fn store_phy(words: &mut [u32], at: usize, numbers: Phy)
 }
 
 // Another record for phy p, and another change count. Where there is no place for the phy, none is stored.
+#[inline(always)]
 pub fn put(words: &mut [u32; WORDS], p: u32, numbers: Phy, changes: u16)
     ensures { words.new ≡ laid_over words.old (put (shelf_of words.old) p numbers changes) }
 {
