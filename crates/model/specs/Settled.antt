@@ -4,7 +4,7 @@
 --
 -- A promise is taken as the toolchain reads it off the function's source, so that nothing is typed a second time: `Kinds` of a function
 -- has the kinds of its parameters (ps) and of its result (r), `Reads` what it may assume (`Pre`) and must show (`Post`). Every clause here
--- is a plain ⌜ ⌝, so these are also what its caller shows and learns. κs are the lifetimes of what is lent, a the arguments.
+-- is a plain fact, so these are also what its caller shows and learns. κs are the lifetimes of what is lent, a the arguments.
 --
 -- A promise that nothing can keep would be settled too; that one outcome keeps it is the function's own proof, since it always returns.
 -- The arguments have in them where lent memory lies: that no answer, and no word and no byte afterwards, depends on it is a theorem over
