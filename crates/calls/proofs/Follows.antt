@@ -8,7 +8,7 @@ use mathlib.Core.List.{List, []}
 use denote.Bor.{Bor}
 use denote.MutBor.{MutBor}
 use Rattle.model.specs.declared.Shelf.{Shelf}
-use Rattle.model.specs.declared.Taken.{Taken}
+use Rattle.model.specs.Answers.{Taken}
 use Rattle.model.specs.House.{taken_number}
 use Rattle.model.specs.Reports.{reduced_functionality, ses_notice}
 use Rattle.model.specs.Runs.{Operation, ReducedFunctionality, Ses, next}

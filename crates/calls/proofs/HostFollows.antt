@@ -1,4 +1,5 @@
 -- The interface for C goes as the model does (`Follows`): each promise of `host` says so. Assumes nothing.
+use Rattle.std.specs.Prelude.{Ok, Err}
 use Prim.Native.Nat.{ℕ, ◌/◌, ◌≤◌}
 use native.Mathlib.Omega.{arith}
 use mathlib.Core.Path.{◌≡◌, refl, sym, ap, ◌∙◌}
@@ -9,13 +10,10 @@ use borrow.Author.Tests.{ltb-true, ltb-false, ne_eqb}
 use lib.Count.{ones, ones-ones}
 use lib.Dec.{T, ltb}
 use lib.ListN.{length}
-use Rattle.model.specs.declared.EventAnswer.{EventAnswer}
-use Rattle.model.specs.declared.EventAnswer.TheVariants.{Counted, NotCounted}
 use Rattle.model.specs.declared.House.{House}
 use Rattle.model.specs.declared.House.TheVariants.{SourceGroup}
 use Rattle.model.specs.declared.Shelf.{Shelf}
-use Rattle.model.specs.declared.Taken.{Taken}
-use Rattle.model.specs.declared.Taken.TheVariants.{Done, NotDone}
+use Rattle.model.specs.Answers.{EventAnswer, Taken, told_cut}
 use Rattle.model.specs.House.{house_number, taken_number, event_number, answer_number, query_number}
 use Rattle.model.specs.Reach.{reach_set, reach_number, reach_query}
 use Rattle.model.specs.Reports.{event, link_change, reduced_functionality, ses_notice}
@@ -78,13 +76,13 @@ none_reads told clear =
     record { number = rw unset; bit_31 = λ refused. absurd (rw unset at refused) }
 
 pub taken_reads : (taken : Taken) → Reads (taken_told taken) (taken_number taken)
-taken_reads Done = none_reads 0 refl
-taken_reads (NotDone house) = refused_reads house
+taken_reads (Ok tt) = none_reads 0 refl
+taken_reads (Err house) = refused_reads house
 
 event_reads : (answer : EventAnswer) → Reads (event_told answer) (event_number answer)
-event_reads (Counted true) = none_reads 1 refl
-event_reads (Counted false) = none_reads 0 refl
-event_reads (NotCounted house) = refused_reads house
+event_reads (told_cut true) = none_reads 1 refl
+event_reads (told_cut false) = none_reads 0 refl
+event_reads (Err house) = refused_reads house
 
 answer_reads : (s : Shelf) (g : ℕ) (frame : List ℕ) (room : ℕ) (reply : Reply) → (handle s g frame room).reply ≡ reply
     → Reads (answer_told (answer reply)) (answer_number (answer reply))
@@ -121,8 +119,8 @@ event_tells answer =
 
 -- and nothing else is told by 1: a response has 4 bytes or more, and a set of one phy has its number above it
 taken_tells : (taken : Taken) → smp_cut (taken_told taken) ≡ false
-taken_tells Done = refl
-taken_tells (NotDone house) = refused_tells house
+taken_tells (Ok tt) = refl
+taken_tells (Err house) = refused_tells house
 
 answer_tells : (s : Shelf) (g : ℕ) (frame : List ℕ) (room : ℕ) (reply : Reply) → (handle s g frame room).reply ≡ reply
     → smp_cut (answer_told (answer reply)) ≡ false

@@ -1,4 +1,5 @@
--- A start that goes as the model does: its house refusal is the lowest that applies, and leaves the words; and a run that it begins keeps
+-- A start that goes as the model does: its house Rattle.std.specs.Prelude.{Ok, Err}
+use refusal is the lowest that applies, and leaves the words; and a run that it begins keeps
 -- the invariant, has its history for the list of stored peak events, leaves each error count as it was tallied (#104), and meets demand 3.
 -- Assumes nothing.
 use Prim.Native.Nat.{ℕ, ◌+◌, ◌≤◌, ◌<◌}
@@ -6,8 +7,7 @@ use native.Mathlib.Omega.{arith}
 use mathlib.Core.Path.{◌≡◌, refl, sym, ap, subst, subst⁻¹, ◌∙◌}
 use mathlib.Core.List.{List, map}
 use Rattle.model.specs.declared.Shelf.{Shelf}
-use Rattle.model.specs.declared.Taken.{Taken}
-use Rattle.model.specs.declared.Taken.TheVariants.{Done, NotDone}
+use Rattle.model.specs.Answers.{Taken}
 use Rattle.model.specs.CrossedOut.{remains}
 use Rattle.model.specs.Fits.{Sound, AllFit, StartFits}
 use Rattle.model.specs.History.{history}
@@ -34,8 +34,8 @@ use Rattle.calls.proofs.ManyCalls.{Go, Ends, ends, got_answers}
 -- the words after a start that is refused
 refused_words : (ws : List ℕ) (taken : Taken) (s : Shelf) → 1 ≤ taken_number taken
     → started_words ws (record { taken = taken; shelf = s }) ≡ ws
-refused_words ws Done s refused = absurd (omega arith)
-refused_words ws (NotDone house) s refused = refl
+refused_words ws (Ok tt) s refused = absurd (omega arith)
+refused_words ws (Err house) s refused = refl
 
 module _ {A : Type 0} (coded : Said → A) (refusal : A → ℕ)
     (reads : (taken : Taken) → refusal (coded (ToReport taken)) ≡ taken_number taken) where
@@ -54,14 +54,14 @@ module _ {A : Type 0} (coded : Said → A) (refusal : A → ℕ)
 
     -- a start that is not refused
     module _ (taken : refusal x.told ≡ 0) where
-      done : (start_of x.asked).taken ≡ Done
+      done : (start_of x.asked).taken ≡ Ok tt
       done = (done_iff (start_of x.asked).taken).1 (sym start_number ∙ taken)
 
       fresh_words : x.after ≡ words_of (start_of x.asked).shelf
       fresh_words = starts.words ∙ done_words x.before (start_of x.asked) done
 
       module _ (fit : StartFits x.asked.table x.asked.identifier) where
-        taken_done : start_taken x.asked.number x.asked.groups x.asked.table ≡ Done
+        taken_done : start_taken x.asked.number x.asked.groups x.asked.table ≡ Ok tt
         unfolding start
         taken_done = sym (outcome_taken _ _ _) ∙ done
 
@@ -123,7 +123,7 @@ module _ {A : Type 0} (coded : Said → A) (refusal : A → ℕ)
     begun_demand_3 fit taken g one other go_one go_other from_one from_other fits_one fits_other remain =
         let from : RunFrom x.after other = subst⁻¹ (λ ws. RunFrom ws other) (same_words taken) from_other in
         let s : Shelf = (start_of x.asked).shelf in
-        let started : start_of x.asked ≡ record { taken = Done; shelf = s } =
+        let started : start_of x.asked ≡ record { taken = Ok tt; shelf = s } =
         ap (λ (t : Taken). record { taken = t; shelf = s }) (done x starts_x taken) in
         begun_answers x starts_x taken fit one go_one from_one fits_one g
         ∙ ap (map (coded_told coded)) (demand_3 _ _ _ _ s started g (operations one) (operations other) remain)

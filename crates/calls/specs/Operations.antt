@@ -1,13 +1,9 @@
 -- What the model says of one operation on a shelf, of every kind of operation alike: what its caller is told, what the lent buffer holds
 -- afterwards, which house refusals there are, and which source group gets it. And the same of a start.
-use Rattle.std.specs.Prelude.{ℕ, Bool, false, List, [], eqb}
-use Rattle.model.specs.declared.Answer.{Answer}
-use Rattle.model.specs.declared.EventAnswer.{EventAnswer}
-use Rattle.model.specs.declared.EventAnswer.TheVariants.{Counted, NotCounted}
+use Rattle.std.specs.Prelude.{ℕ, Bool, false, List, [], eqb, Err}
 use Rattle.model.specs.declared.Outcome.{Outcome}
-use Rattle.model.specs.declared.Reach.{Reach}
 use Rattle.model.specs.declared.Shelf.{Shelf}
-use Rattle.model.specs.declared.Taken.{Taken}
+use Rattle.model.specs.Answers.{Answer, EventAnswer, Reach, Taken, told_cut}
 use Rattle.model.specs.House.{taken_number, event_number, answer_number, query_number}
 use Rattle.model.specs.Reach.{reach_query}
 use Rattle.model.specs.Reports.{event, link_change}
@@ -80,8 +76,8 @@ refusals s (QueryReach g) = query_refusals g
 -- ---- #104: whether an event report is told that its own addition was cut; nothing else is ever told so.
 
 abbrev pub event_says_cut : EventAnswer → Bool
-event_says_cut (Counted cut) = cut
-event_says_cut (NotCounted house) = false
+event_says_cut (told_cut cut) = cut
+event_says_cut (Err house) = false
 
 abbrev pub says_cut : Said → Bool
 says_cut (ToRequest answer) = false

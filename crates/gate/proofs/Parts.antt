@@ -8,7 +8,7 @@ use mathlib.Core.Bool.{Bool, true, false, not}
 use mathlib.Core.List.{List, [], ◌∷◌}
 use lib.Dec.{T, eqb}
 use lib.ListN.{length}
-use Rattle.model.specs.declared.Judged.{Judged}
+use Rattle.model.specs.Answers.{Judged}
 use Rattle.model.specs.Bytes.{byte}
 use Rattle.model.specs.Request.{cut_frame, wrong_frame, function_of, known, length_right, judge}
 use Rattle.model.specs.Tests.{check}

@@ -1,9 +1,9 @@
 -- "The shelf's firmware is in C. It calls two parts that need no device: judging one request frame alone (function and H6,
 -- 01h, 03h or nothing wrong) .." #103, of H6 and H10: "The C firmware's frame judge tells both as well." What C is told of a frame is one
 -- number of 32 bits, in four parts of 8 bits.
-use Rattle.std.specs.Prelude.{ℕ, ◌+◌, ◌*◌, Bool, cond, List, leb, length}
-use Rattle.model.specs.declared.Judged.{Judged}
-use Rattle.model.specs.declared.Judged.TheVariants.{Asked, NoFrame, Fails}
+use Rattle.std.specs.Prelude.{ℕ, ◌+◌, ◌*◌, Bool, cond, List, leb, length, Ok, Err}
+use Rattle.model.specs.declared.Fault.TheVariants.{NoFrame, Fails}
+use Rattle.model.specs.Answers.{Judged}
 use Rattle.model.specs.House.{house_number}
 use Rattle.model.specs.Request.{function_of, judge}
 use Rattle.model.specs.Results.{result_code}
@@ -18,15 +18,15 @@ function_part frame = cond (has_function frame) (function_of frame) 0x00
 
 -- bits 8 to 15: the result that the frame draws, 01h or 03h, or 00h where it draws none
 abbrev pub result_part : Judged → ℕ
-result_part (Asked request) = 0x00
-result_part (NoFrame house) = 0x00
-result_part (Fails result) = result_code result
+result_part (Ok request) = 0x00
+result_part (Err (NoFrame house)) = 0x00
+result_part (Err (Fails result)) = result_code result
 
 -- bits 16 to 23: the number of the house refusal that it draws, 6 or 10, or 0 where it draws none
 abbrev pub house_part : Judged → ℕ
-house_part (Asked request) = 0
-house_part (NoFrame house) = house_number house
-house_part (Fails result) = 0
+house_part (Ok request) = 0
+house_part (Err (NoFrame house)) = house_number house
+house_part (Err (Fails result)) = 0
 
 -- bits 24 to 31: 1 where there is a function to tell, and 0 where there is none
 abbrev pub has_function_part : List ℕ → ℕ

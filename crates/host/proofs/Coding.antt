@@ -1,4 +1,5 @@
--- What C reads off the number that it is told (firmware/kinubarsil.h): whether it is a house refusal and which, whether an event report's
+-- What C reads off the number that it is told (firmware/kinubarsil.h): whether it is a house Rattle.std.specs.Prelude.{Err}
+use refusal and which, whether an event report's
 -- own addition was cut, the length of a response, the set of phys that are reached and their number. Assumes nothing.
 use Prim.Native.Nat.{ℕ, ◌/◌, ◌%◌, ◌≤◌}
 use native.Mathlib.Omega.{arith}
@@ -9,12 +10,10 @@ use mathlib.Core.List.{List}
 use lib.Count.{ones-le}
 use lib.Dec.{ltb}
 use lib.ListN.{length}
-use Rattle.model.specs.declared.EventAnswer.{EventAnswer}
-use Rattle.model.specs.declared.EventAnswer.TheVariants.{Counted, NotCounted}
 use Rattle.model.specs.declared.House.{House}
 use Rattle.model.specs.declared.House.TheVariants.{SourceGroup}
-use Rattle.model.specs.declared.Reach.TheVariants.{Reaches, NoReach}
 use Rattle.model.specs.declared.Shelf.{Shelf}
+use Rattle.model.specs.Answers.{EventAnswer, reach_gives, told_cut}
 use Rattle.model.specs.House.{house_number}
 use Rattle.model.specs.Reach.{reach_set, reach_number, reach_query}
 use Rattle.model.specs.Server.{Reply, Refuses, Sends, handle, answer, served}
@@ -29,10 +28,10 @@ pub refused_read : (house : House) → (refused_told house / 0x80000000 ≡ 1) �
 refused_read house = let (_, few) = house_range house in (omega arith, omega arith)
 
 -- an event report is told by 1 exactly where its own addition was cut (#104)
-pub event_read : (answer : EventAnswer) → (event_told answer ≡ 1) ↔ (answer ≡ Counted true)
-event_read (Counted true) = (λ e. refl, λ e. refl)
-event_read (Counted false) = (λ e. absurd (omega arith), λ e. ap event_told e)
-event_read (NotCounted house) = (λ e. absurd (omega (arith, house_range house)), λ e. ap event_told e)
+pub event_read : (answer : EventAnswer) → (event_told answer ≡ 1) ↔ (answer ≡ told_cut true)
+event_read (told_cut true) = (λ e. refl, λ e. refl)
+event_read (told_cut false) = (λ e. absurd (omega arith), λ e. ap event_told e)
+event_read (Err house) = (λ e. absurd (omega (arith, house_range house)), λ e. ap event_told e)
 
 -- a response is told by its length, 4 to 400, and so without bit 31
 pub response_read : (s : Shelf) (g : ℕ) (frame : List ℕ) (room : ℕ) (bytes : List ℕ) → (handle s g frame room).reply ≡ Sends bytes
@@ -64,5 +63,5 @@ pub reach_fits : (s : Shelf) (g : ℕ) → ReachFits (reach_query s g)
 unfolding reach_query
 reach_fits s g =
     let fits = reach_set_fits s g in
-    check_both ReachFits (not (ltb 31 g)) (NoReach SourceGroup) (Reaches (reach_set s g) (reach_number s g)) tt
+    check_both ReachFits (not (ltb 31 g)) (Err SourceGroup) (reach_gives (reach_set s g) (reach_number s g)) tt
     (fits, rw (reach_ones s g) (ones-le 24 (reach_set s g) fits))

@@ -1,15 +1,8 @@
 -- What C is told: one number of 32 bits. Bit 31 says that it is a house refusal, whose number, 1 to 10, is in the low bits; where it is
 -- not set, the number is what was asked for.
-use Rattle.std.specs.Prelude.{ℕ, ◌+◌, ◌*◌, ◌≤◌, ◌<◌, cond}
-use Rattle.model.specs.declared.Answer.{Answer}
-use Rattle.model.specs.declared.Answer.TheVariants.{Response, NoResponse}
-use Rattle.model.specs.declared.EventAnswer.{EventAnswer}
-use Rattle.model.specs.declared.EventAnswer.TheVariants.{Counted, NotCounted}
+use Rattle.std.specs.Prelude.{ℕ, ◌+◌, ◌*◌, ◌≤◌, ◌<◌, cond, Ok, Err}
 use Rattle.model.specs.declared.House.{House}
-use Rattle.model.specs.declared.Reach.{Reach}
-use Rattle.model.specs.declared.Reach.TheVariants.{Reaches, NoReach}
-use Rattle.model.specs.declared.Taken.{Taken}
-use Rattle.model.specs.declared.Taken.TheVariants.{Done, NotDone}
+use Rattle.model.specs.Answers.{Answer, EventAnswer, Reach, Taken, reach_gives, told_cut}
 use Rattle.model.specs.House.{house_number}
 
 abbrev pub refused_told : House → ℕ
@@ -17,29 +10,29 @@ refused_told house = 0x80000000 + house_number house
 
 -- a start or a link change: 0 where it is done
 abbrev pub taken_told : Taken → ℕ
-taken_told Done = 0
-taken_told (NotDone house) = refused_told house
+taken_told (Ok tt) = 0
+taken_told (Err house) = refused_told house
 
 -- an event report (#104): 0 where it is counted, and 1 where its own addition to an error count was cut
 abbrev pub event_told : EventAnswer → ℕ
-event_told (Counted cut) = cond cut 1 0
-event_told (NotCounted house) = refused_told house
+event_told (told_cut cut) = cond cut 1 0
+event_told (Err house) = refused_told house
 
 -- a request: the length of the response
 abbrev pub answer_told : Answer → ℕ
-answer_told (Response size) = size
-answer_told (NoResponse house) = refused_told house
+answer_told (Ok size) = size
+answer_told (Err house) = refused_told house
 
 -- a reach query: the set of phys in bits 0 to 23, and how many they are in bits 24 to 28
 abbrev pub reach_told : Reach → ℕ
-reach_told (Reaches phys number) = number * 0x1000000 + phys
-reach_told (NoReach house) = refused_told house
+reach_told (reach_gives phys number) = number * 0x1000000 + phys
+reach_told (Err house) = refused_told house
 
 -- What `answer_told` and `reach_told` ask of what they code, and what the server's answers have (proofs/Coding.antt): room in their bits.
 abbrev pub AnswerFits : Answer → Type 0
-AnswerFits (Response size) = size ≤ 400
-AnswerFits (NoResponse house) = Unit {0}
+AnswerFits (Ok size) = size ≤ 400
+AnswerFits (Err house) = Unit {0}
 
 abbrev pub ReachFits : Reach → Type 0
-ReachFits (Reaches phys number) = (phys < 0x1000000) × (number ≤ 24)
-ReachFits (NoReach house) = Unit {0}
+ReachFits (reach_gives phys number) = (phys < 0x1000000) × (number ≤ 24)
+ReachFits (Err house) = Unit {0}

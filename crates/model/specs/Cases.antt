@@ -1,10 +1,9 @@
 -- "The marked (P) cases are proved of the definitions, gathered as a single checked list": cases 1 to 11, each with what was asked and
 -- what must come. "Freshly started for each case; where no source is named it is 1." `proofs/Cases` has the theorem that all hold.
-use Rattle.std.specs.Prelude.{ℕ, List, [], ◌∷◌, ◌++◌, set}
+use Rattle.std.specs.Prelude.{ℕ, List, [], ◌∷◌, ◌++◌, set, Err, Ok}
 use Rattle.model.specs.declared.Phy.{Phy}
-use Rattle.model.specs.declared.Reach.{Reach}
-use Rattle.model.specs.declared.Reach.TheVariants.{Reaches, NoReach}
 use Rattle.model.specs.declared.Shelf.{Shelf}
+use Rattle.model.specs.Answers.{Reach, reach_gives}
 use Rattle.model.specs.Bytes.{zeros}
 use Rattle.model.specs.Hex.{hex}
 use Rattle.model.specs.House.{house_number}
@@ -44,8 +43,8 @@ of_reply (Refuses house) = H (house_number house)
 of_reply (Sends bytes) = Bytes bytes
 
 abbrev pub of_reach : Reach → Comes
-of_reach (Reaches phys number) = Set phys number
-of_reach (NoReach house) = H (house_number house)
+of_reach (Ok reached) = Set reached.phys reached.number
+of_reach (Err house) = H (house_number house)
 
 abbrev pub find : Shelf → Question → Comes
 find s (Send g frame) = of_reply (handle s g frame 1028).reply

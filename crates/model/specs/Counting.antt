@@ -1,5 +1,5 @@
 -- "Counting": what a report does to a monitor and to an error count, and what originating does to a broadcast count.
-use Rattle.std.specs.Prelude.{ℕ, zero, suc, ◌+◌, ◌-◌, ◌%◌, ◌^◌, min, max, Bool, true, false, cond, ◌&&◌, List, [], ◌∷◌, map, leb, ltb, eqb, length, get_or, set, replicate}
+use Rattle.std.specs.Prelude.{ℕ, zero, suc, ◌+◌, ◌-◌, ◌%◌, ◌^◌, min, max, Bool, true, false, cond, ◌&&◌, List, [], ◌∷◌, map, leb, ltb, eqb, length, get_or, set, replicate, Option, Some, None}
 use Rattle.model.specs.declared.Added.{Added}
 use Rattle.model.specs.declared.Effect.{Effect}
 use Rattle.model.specs.declared.Monitor.{Monitor}
@@ -23,13 +23,25 @@ originate_times (suc n) count = originate_times n (originate count)
 
 -- ---- What a write or a report does to the phy that it names
 
--- the phy afterwards, whether Change is originated, and its monitors as they stand when they are stored, with those that are marked
+-- those of some monitors that are marked, each in its place
+abbrev pub marked : List Bool → List Monitor → List (Option Monitor)
+marked [] ms = []
+marked (mark ∷ marks) [] = []
+marked (mark ∷ marks) (m ∷ ms) = cond mark (Some m) None ∷ marked marks ms
+
+-- those that are there, in monitor order
+abbrev pub stored_ones : List (Option Monitor) → List Monitor
+stored_ones [] = []
+stored_ones (Some m ∷ ms) = m ∷ stored_ones ms
+stored_ones (None ∷ ms) = stored_ones ms
+
+-- the phy afterwards, whether Change is originated, and its monitors as they stand when they are stored, those that are marked
 abbrev pub effect_of : Phy → Bool → List Monitor → List Bool → Effect
-effect_of after change monitors stored = record { phy = after; change = change; monitors = monitors; stored = stored }
+effect_of after change monitors marks = record { phy = after; change = change; stored = marked marks monitors }
 
 -- nothing is stored
 abbrev pub stores_none : Phy → Bool → Effect
-stores_none after change = effect_of after change after.monitors (replicate 4 false)
+stores_none after change = record { phy = after; change = change; stored = replicate 4 None }
 
 -- .. and Change is not originated
 abbrev pub quiet : Phy → Effect

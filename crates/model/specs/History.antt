@@ -1,12 +1,10 @@
 -- #101: which entries are stored, said by the operations alone and not by what the shelf keeps of them: "Each origination of Expander 1h
 -- stores the monitor that crossed ..; each Expander 2h stores every peak monitor of the phy".
-use Rattle.std.specs.Prelude.{ℕ, ◌-◌, cond, List, [], ◌∷◌, ◌++◌, ltb, length, drop}
+use Rattle.std.specs.Prelude.{ℕ, ◌-◌, cond, List, [], ◌∷◌, ◌++◌, ltb, length, drop, Ok, Err}
 use Rattle.model.specs.declared.Entry.{Entry}
-use Rattle.model.specs.declared.Judged.{Judged}
-use Rattle.model.specs.declared.Judged.TheVariants.{Asked, NoFrame, Fails}
+use Rattle.model.specs.declared.Fault.TheVariants.{NoFrame, Fails}
 use Rattle.model.specs.declared.Shelf.{Shelf}
-use Rattle.model.specs.declared.Taken.{Taken}
-use Rattle.model.specs.declared.Taken.TheVariants.{Done, NotDone}
+use Rattle.model.specs.Answers.{Judged, Taken}
 use Rattle.model.specs.Counting.{originate_times, event_on}
 use Rattle.model.specs.Reports.{event_taken}
 use Rattle.model.specs.Request.{judge}
@@ -20,14 +18,14 @@ use Rattle.model.specs.Writes.{Doing, Reads, WritesTo, doing}
 
 -- a report that is taken stores these
 abbrev pub if_taken : Taken → List Entry → List Entry
-if_taken Done es = es
-if_taken (NotDone house) es = []
+if_taken (Ok done) es = es
+if_taken (Err house) es = []
 
 -- what is done by a request that is accepted; one that is refused, or fails, does nothing, as a read
 abbrev pub judged_does : Shelf → ℕ → List ℕ → Judged → Doing
-judged_does s g frame (NoFrame house) = Reads
-judged_does s g frame (Fails result) = Reads
-judged_does s g frame (Asked request) = cond (accepted (decide s g frame request)) (doing frame request) Reads
+judged_does s g frame (Err (NoFrame house)) = Reads
+judged_does s g frame (Err (Fails result)) = Reads
+judged_does s g frame (Ok request) = cond (accepted (decide s g frame request)) (doing frame request) Reads
 
 abbrev pub request_does : Shelf → ℕ → List ℕ → ℕ → Doing
 request_does s g frame room =

@@ -2,18 +2,11 @@
 -- What each is given for stands where it is given: H1 to H3 in `Shelf`, H4 in `Reach` and `Server`, H5 in `Server`,
 -- H6 in `Request`, H7 to H9 in `Reports`, and H10, which #103 adds, in `Request`. "The lowest number that applies is given": there
 -- they stand in rising order.
-use Rattle.std.specs.Prelude.{ℕ}
-use Rattle.model.specs.declared.Answer.{Answer}
-use Rattle.model.specs.declared.Answer.TheVariants.{Response, NoResponse}
-use Rattle.model.specs.declared.EventAnswer.{EventAnswer}
-use Rattle.model.specs.declared.EventAnswer.TheVariants.{Counted, NotCounted}
+use Rattle.model.specs.Answers.{Answer, EventAnswer, Reach, Taken, reach_gives, told_cut}
+use Rattle.std.specs.Prelude.{ℕ, Ok, Err}
 use Rattle.model.specs.declared.House.{House}
 use Rattle.model.specs.declared.House.TheVariants.{PhyNumber, PhyGroup, IllegalTable, SourceGroup, ShortBuffer}
 use Rattle.model.specs.declared.House.TheVariants.{CutFrame, NoSuchPhy, EventSource, Amount, WrongFrame}
-use Rattle.model.specs.declared.Reach.{Reach}
-use Rattle.model.specs.declared.Reach.TheVariants.{Reaches, NoReach}
-use Rattle.model.specs.declared.Taken.{Taken}
-use Rattle.model.specs.declared.Taken.TheVariants.{Done, NotDone}
 
 abbrev pub house_number : House → ℕ
 house_number PhyNumber = 1
@@ -29,17 +22,17 @@ house_number WrongFrame = 10
 
 -- The number that a start or a link change, an event report, a request, and a reach query is told: 0 where it is not refused.
 abbrev pub taken_number : Taken → ℕ
-taken_number Done = 0
-taken_number (NotDone house) = house_number house
+taken_number (Ok done) = 0
+taken_number (Err house) = house_number house
 
 abbrev pub event_number : EventAnswer → ℕ
-event_number (Counted cut) = 0
-event_number (NotCounted house) = house_number house
+event_number (Ok counted) = 0
+event_number (Err house) = house_number house
 
 abbrev pub answer_number : Answer → ℕ
-answer_number (Response size) = 0
-answer_number (NoResponse house) = house_number house
+answer_number (Ok size) = 0
+answer_number (Err house) = house_number house
 
 abbrev pub query_number : Reach → ℕ
-query_number (Reaches phys number) = 0
-query_number (NoReach house) = house_number house
+query_number (Ok reached) = 0
+query_number (Err house) = house_number house

@@ -7,6 +7,8 @@ pub mod Shelf
 pub mod Reach
 -- "House refusals": their numbers
 pub mod House
+-- what judging yields and what is told: done, or the refusal
+pub mod Answers
 -- "Function results": their codes, and the order in which they are judged
 pub mod Results
 -- "Frames": a request is judged and read; the responses; what the writes do; the whole of a request

@@ -1,10 +1,9 @@
 -- "A source reaches a phy if its row has the bit of the phy's group." "A reach query gives, for a source group,
 -- the set of phys it reaches as a 32-bit number and how many they are; a group above 31 draws H4."
-use Rattle.std.specs.Prelude.{ℕ, ◌^◌, Bool, cond, ltb}
+use Rattle.std.specs.Prelude.{ℕ, ◌^◌, Bool, cond, ltb, Err}
 use Rattle.model.specs.declared.House.TheVariants.{SourceGroup}
-use Rattle.model.specs.declared.Reach.{Reach}
-use Rattle.model.specs.declared.Reach.TheVariants.{Reaches, NoReach}
 use Rattle.model.specs.declared.Shelf.{Shelf}
+use Rattle.model.specs.Answers.{Reach, reach_gives}
 use Rattle.model.specs.Shelf.{phy_number, phy_at}
 use Rattle.model.specs.Tests.{given, sum_below}
 use Rattle.model.specs.Zone.{row, row_reaches}
@@ -21,4 +20,4 @@ unfoldable pub reach_number : Shelf → ℕ → ℕ
 reach_number s g = sum_below (phy_number s) (λ p. cond (reaches s g p) 1 0)
 
 unfoldable pub reach_query : Shelf → ℕ → Reach
-reach_query s g = given (ltb 31 g) (NoReach SourceGroup) (Reaches (reach_set s g) (reach_number s g))
+reach_query s g = given (ltb 31 g) (Err SourceGroup) (reach_gives (reach_set s g) (reach_number s g))

@@ -1,16 +1,13 @@
 -- The reports: "An event report names phy, source and a 32-bit amount." "Other reports: a link change on a phy (Change),
 -- and two device notices (Expander 3h, SES)." "Change also moves the change count the same way."
-use Rattle.std.specs.Prelude.{ℕ, Bool, not, ◌&&◌, ◌||◌, ltb, eqb}
+use Rattle.std.specs.Prelude.{ℕ, Bool, not, ◌&&◌, ◌||◌, ltb, eqb, Ok, Err}
 use Rattle.model.specs.declared.Effect.{Effect}
-use Rattle.model.specs.declared.EventAnswer.{EventAnswer}
-use Rattle.model.specs.declared.EventAnswer.TheVariants.{Counted, NotCounted}
 use Rattle.model.specs.declared.EventOutcome.{EventOutcome}
 use Rattle.model.specs.declared.House.TheVariants.{NoSuchPhy, EventSource, Amount}
 use Rattle.model.specs.declared.Outcome.{Outcome}
 use Rattle.model.specs.declared.Phy.{Phy}
 use Rattle.model.specs.declared.Shelf.{Shelf}
-use Rattle.model.specs.declared.Taken.{Taken}
-use Rattle.model.specs.declared.Taken.TheVariants.{Done, NotDone}
+use Rattle.model.specs.Answers.{EventAnswer, Taken, told_cut}
 use Rattle.model.specs.Counting.{originate, change_on, error_cut, event_on}
 use Rattle.model.specs.Shelf.{exists, phy_at, put_device, outcome}
 use Rattle.model.specs.Sources.{supported}
@@ -24,15 +21,15 @@ amount_too_large source amount = eqb source 0x2B && ltb 0xFF amount || eqb sourc
 -- H7 "phy does not exist", H8 "event source 00h or unsupported", H9; the first argument says whether the phy exists
 unfoldable pub event_taken : Bool → ℕ → ℕ → Taken
 event_taken there source amount =
-    given (not there) (NotDone NoSuchPhy)
-    (given (eqb source 0x00 || not (supported source)) (NotDone EventSource)
-    (given (amount_too_large source amount) (NotDone Amount)
-    Done))
+    given (not there) (Err NoSuchPhy)
+    (given (eqb source 0x00 || not (supported source)) (Err EventSource)
+    (given (amount_too_large source amount) (Err Amount)
+    (Ok tt)))
 
 -- The answer: #104: "An event report's answer then says whether its own addition was cut". A refused report has no such answer.
 abbrev pub event_answer : Taken → Bool → EventAnswer
-event_answer Done cut = Counted cut
-event_answer (NotDone house) cut = NotCounted house
+event_answer (Ok done) cut = told_cut cut
+event_answer (Err house) cut = Err house
 
 unfoldable pub event : Shelf → ℕ → ℕ → ℕ → EventOutcome
 event s p source amount =
@@ -44,7 +41,7 @@ event s p source amount =
 
 -- a link change: H7 alone
 abbrev pub link_change_taken : Bool → Taken
-link_change_taken there = given (not there) (NotDone NoSuchPhy) Done
+link_change_taken there = given (not there) (Err NoSuchPhy) (Ok tt)
 
 -- A link change originates Change, and leaves the phy enabled or not as it was.
 abbrev pub link_change_on : Phy → Effect

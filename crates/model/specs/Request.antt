@@ -1,15 +1,15 @@
 -- "judging one request frame alone (function and H6, 01h, 03h or nothing wrong)". By #103 "H6 keeps the first meaning" of its two, and
 -- the judge tells H10 "as well". "Judging yields the read request or a refusal; the server takes its requests from there only." "The link
 -- layer strips and checks the CRC. All frames here are without it".
-use Rattle.std.specs.Prelude.{ℕ, zero, suc, ◌+◌, ◌*◌, Bool, not, cond, ◌&&◌, ◌||◌, List, [], ◌∷◌, ltb, eqb, length}
-use Rattle.model.specs.declared.FunctionResult.TheVariants.{UnknownSmpFunction, InvalidRequestFrameLength}
+use Rattle.std.specs.Prelude.{ℕ, zero, suc, ◌+◌, ◌*◌, Bool, not, cond, ◌&&◌, ◌||◌, List, [], ◌∷◌, ltb, eqb, length, Ok, Err}
+use Rattle.model.specs.declared.Failure.TheVariants.{UnknownSmpFunction, InvalidRequestFrameLength}
 use Rattle.model.specs.declared.House.TheVariants.{CutFrame, WrongFrame}
-use Rattle.model.specs.declared.Judged.{Judged}
-use Rattle.model.specs.declared.Judged.TheVariants.{Asked, NoFrame, Fails}
+use Rattle.model.specs.declared.Fault.TheVariants.{NoFrame, Fails}
 use Rattle.model.specs.declared.Request.{Request}
 use Rattle.model.specs.declared.Request.TheVariants.{ReportGeneral, ReportManufacturer, ReportBroadcast}
 use Rattle.model.specs.declared.Request.TheVariants.{ReportPhyErrorLog, ReportPhyEvent, PhyControl}
 use Rattle.model.specs.declared.Request.TheVariants.{ReportPhyEventList, ConfigurePhyEvent}
+use Rattle.model.specs.Answers.{Judged}
 use Rattle.model.specs.Bytes.{byte, word, dword}
 use Rattle.model.specs.Sources.{supported}
 use Rattle.model.specs.Tests.{check, given, one_of}
@@ -72,11 +72,11 @@ asked frame =
 
 unfoldable pub judge : List ℕ → Judged
 judge frame =
-    given (cut_frame frame) (NoFrame CutFrame)
-    (given (wrong_frame frame) (NoFrame WrongFrame)
-    (check (known (function_of frame)) (Fails UnknownSmpFunction)
-    (check (length_right frame) (Fails InvalidRequestFrameLength)
-    (Asked (asked frame)))))
+    given (cut_frame frame) (Err (NoFrame CutFrame))
+    (given (wrong_frame frame) (Err (NoFrame WrongFrame))
+    (check (known (function_of frame)) (Err (Fails UnknownSmpFunction))
+    (check (length_right frame) (Err (Fails InvalidRequestFrameLength))
+    (Ok (asked frame)))))
 
 -- the phy of a function that has one; a request without a phy names none, and nothing asks for it
 abbrev pub phy_of : Request → ℕ

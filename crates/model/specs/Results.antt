@@ -1,35 +1,40 @@
 -- "Function results: a frame is written". "In this order, first failure decides".
-use Rattle.std.specs.Prelude.{ℕ, Bool, List, [], ◌∷◌, leb, eqb}
-use Rattle.model.specs.declared.FunctionResult.{FunctionResult}
-use Rattle.model.specs.declared.FunctionResult.TheVariants.{Accepted, UnknownSmpFunction, SmpFunctionFailed}
-use Rattle.model.specs.declared.FunctionResult.TheVariants.{InvalidRequestFrameLength}
-use Rattle.model.specs.declared.FunctionResult.TheVariants.{InvalidExpanderChangeCount, PhyDoesNotExist}
-use Rattle.model.specs.declared.FunctionResult.TheVariants.{UnknownPhyOperation, PhyVacant}
-use Rattle.model.specs.declared.FunctionResult.TheVariants.{UnknownPhyEventSource, SmpZoneViolation}
-use Rattle.model.specs.declared.FunctionResult.TheVariants.{NoManagementAccessRights}
+use Rattle.std.specs.Prelude.{ℕ, Bool, List, [], ◌∷◌, leb, eqb, Ok, Err}
+use Rattle.model.specs.declared.Failure.{Failure}
+use Rattle.model.specs.declared.Failure.TheVariants.{UnknownSmpFunction, SmpFunctionFailed}
+use Rattle.model.specs.declared.Failure.TheVariants.{InvalidRequestFrameLength}
+use Rattle.model.specs.declared.Failure.TheVariants.{InvalidExpanderChangeCount, PhyDoesNotExist}
+use Rattle.model.specs.declared.Failure.TheVariants.{UnknownPhyOperation, PhyVacant}
+use Rattle.model.specs.declared.Failure.TheVariants.{UnknownPhyEventSource, SmpZoneViolation}
+use Rattle.model.specs.declared.Failure.TheVariants.{NoManagementAccessRights}
 use Rattle.model.specs.declared.Grounds.{Grounds}
 use Rattle.model.specs.declared.Request.{Request}
 use Rattle.model.specs.declared.Request.TheVariants.{ReportGeneral, ReportManufacturer, ReportBroadcast}
 use Rattle.model.specs.declared.Request.TheVariants.{ReportPhyErrorLog, ReportPhyEvent, PhyControl}
 use Rattle.model.specs.declared.Request.TheVariants.{ReportPhyEventList, ConfigurePhyEvent}
 use Rattle.model.specs.declared.Shelf.{Shelf}
+use Rattle.model.specs.Answers.{FunctionResult}
 use Rattle.model.specs.Reach.{reaches}
 use Rattle.model.specs.Request.{phy_of, first_unsupported}
 use Rattle.model.specs.Shelf.{exists}
 use Rattle.model.specs.Tests.{check, one_of}
 
+abbrev pub failure_code : Failure → ℕ
+failure_code UnknownSmpFunction = 0x01
+failure_code SmpFunctionFailed = 0x02
+failure_code InvalidRequestFrameLength = 0x03
+failure_code InvalidExpanderChangeCount = 0x04
+failure_code PhyDoesNotExist = 0x10
+failure_code UnknownPhyOperation = 0x13
+failure_code PhyVacant = 0x16
+failure_code UnknownPhyEventSource = 0x17
+failure_code SmpZoneViolation = 0x20
+failure_code NoManagementAccessRights = 0x21
+
+-- accepted is 00h
 abbrev pub result_code : FunctionResult → ℕ
-result_code Accepted = 0x00
-result_code UnknownSmpFunction = 0x01
-result_code SmpFunctionFailed = 0x02
-result_code InvalidRequestFrameLength = 0x03
-result_code InvalidExpanderChangeCount = 0x04
-result_code PhyDoesNotExist = 0x10
-result_code UnknownPhyOperation = 0x13
-result_code PhyVacant = 0x16
-result_code UnknownPhyEventSource = 0x17
-result_code SmpZoneViolation = 0x20
-result_code NoManagementAccessRights = 0x21
+result_code (Ok accepted) = 0x00
+result_code (Err failure) = failure_code failure
 
 abbrev pub accepted : FunctionResult → Bool
 accepted result = eqb (result_code result) 0x00
@@ -50,45 +55,45 @@ known_operation operation = one_of (0x00 ∷ 0x01 ∷ 0x03 ∷ 0x05 ∷ []) oper
 -- "10h PHY DOES NOT EXIST (functions with a phy, byte 9)", then "Not reached", with its result, then the rest
 abbrev pub check_phy : Grounds → FunctionResult → FunctionResult → FunctionResult
 check_phy on unreached rest =
-    check on.there PhyDoesNotExist
+    check on.there (Err PhyDoesNotExist)
     (check on.reached unreached
     rest)
 
 -- "16h PHY VACANT for 11h and 14h"
 abbrev pub check_read : Grounds → FunctionResult
-check_read on = check_phy on PhyVacant Accepted
+check_read on = check_phy on (Err PhyVacant) (Ok tt)
 
 -- "20h SMP ZONE VIOLATION for 91h and 93h", after 04h and before the contents
 abbrev pub check_write : Grounds → ℕ → FunctionResult → FunctionResult
 check_write on expected contents =
-    check (count_right on expected) InvalidExpanderChangeCount
-    (check_phy on SmpZoneViolation
+    check (count_right on expected) (Err InvalidExpanderChangeCount)
+    (check_phy on (Err SmpZoneViolation)
     contents)
 
 -- "13h UNKNOWN PHY OPERATION (91h, any operation not named below)"
 abbrev pub check_operation : ℕ → FunctionResult
-check_operation operation = check (known_operation operation) UnknownPhyOperation Accepted
+check_operation operation = check (known_operation operation) (Err UnknownPhyOperation) (Ok tt)
 
 -- "02h SMP FUNCTION FAILED for a broadcast type above 0Fh (06h)"
 abbrev pub check_kind : ℕ → FunctionResult
-check_kind kind = check (leb kind 0x0F) SmpFunctionFailed Accepted
+check_kind kind = check (leb kind 0x0F) (Err SmpFunctionFailed) (Ok tt)
 
 -- "02h SMP FUNCTION FAILED for .. more than four descriptors (93h); then 17h UNKNOWN PHY EVENT SOURCE (93h)"
 abbrev pub check_descriptors : List ℕ → ℕ → FunctionResult
 check_descriptors frame d =
-    check (leb d 4) SmpFunctionFailed
-    (check (eqb (first_unsupported frame d 0) d) UnknownPhyEventSource
-    Accepted)
+    check (leb d 4) (Err SmpFunctionFailed)
+    (check (eqb (first_unsupported frame d 0) d) (Err UnknownPhyEventSource)
+    (Ok tt))
 
 -- #101: "The index tells about phys out of reach, so only source group 1 may ask". "result 21h NO MANAGEMENT ACCESS RIGHTS for other
 -- sources comes directly after 03h"
 abbrev pub check_management : Grounds → FunctionResult
-check_management on = check on.management NoManagementAccessRights Accepted
+check_management on = check on.management (Err NoManagementAccessRights) (Ok tt)
 
 -- The result of a request that was read from this frame, on these grounds. 01h and 03h are behind it: `judge` gives them.
 unfoldable pub result_of : Grounds → List ℕ → Request → FunctionResult
-result_of on frame ReportGeneral = Accepted
-result_of on frame ReportManufacturer = Accepted
+result_of on frame ReportGeneral = Ok tt
+result_of on frame ReportManufacturer = Ok tt
 result_of on frame (ReportBroadcast kind) = check_kind kind
 result_of on frame (ReportPhyErrorLog p) = check_read on
 result_of on frame (ReportPhyEvent p) = check_read on

@@ -1,9 +1,7 @@
 -- What can happen to a shelf, one thing after another: requests, hardware reports and reach queries; and what a source group gets.
-use Rattle.std.specs.Prelude.{ℕ, ◌≡◌, cond, List, [], ◌∷◌, ◌++◌, eqb, length}
-use Rattle.model.specs.declared.Answer.{Answer}
-use Rattle.model.specs.declared.Reach.{Reach}
+use Rattle.std.specs.Prelude.{ℕ, ◌≡◌, cond, List, [], ◌∷◌, ◌++◌, eqb, length, Ok}
 use Rattle.model.specs.declared.Shelf.{Shelf}
-use Rattle.model.specs.declared.Taken.TheVariants.{Done}
+use Rattle.model.specs.Answers.{Answer, Reach}
 use Rattle.model.specs.Reach.{reach_query}
 use Rattle.model.specs.Reports.{event, link_change, reduced_functionality, ses_notice}
 use Rattle.model.specs.Server.{handle, served, lent_after}
@@ -39,7 +37,7 @@ pub record Started (s : Shelf) : Type 0 where
   pub groups : List ℕ
   pub table : List ℕ
   pub identifier : List ℕ
-  pub done : start_taken number groups table ≡ Done
+  pub done : start_taken number groups table ≡ Ok tt
   pub operations : List Operation
   pub now : after (start number groups table identifier).shelf operations ≡ s
 

@@ -1,15 +1,12 @@
 -- One request in, one reply and the next shelf out. Demand 1: "Every request frame, any source group .. gets its fixed answer."
-use Rattle.std.specs.Prelude.{ℕ, cond, List, ◌++◌, ltb, length, drop}
-use Rattle.model.specs.declared.Answer.{Answer}
-use Rattle.model.specs.declared.Answer.TheVariants.{Response, NoResponse}
-use Rattle.model.specs.declared.FunctionResult.{FunctionResult}
+use Rattle.std.specs.Prelude.{ℕ, cond, List, ◌++◌, ltb, length, drop, Ok, Err}
 use Rattle.model.specs.declared.House.{House}
 use Rattle.model.specs.declared.House.TheVariants.{SourceGroup, ShortBuffer}
-use Rattle.model.specs.declared.Judged.{Judged}
-use Rattle.model.specs.declared.Judged.TheVariants.{Asked, NoFrame, Fails}
+use Rattle.model.specs.declared.Fault.TheVariants.{NoFrame, Fails}
 use Rattle.model.specs.declared.Request.{Request}
 use Rattle.model.specs.declared.Served.{Served}
 use Rattle.model.specs.declared.Shelf.{Shelf}
+use Rattle.model.specs.Answers.{Answer, FunctionResult, Judged}
 use Rattle.model.specs.Reply.{failed, respond}
 use Rattle.model.specs.Request.{function_of, judge}
 use Rattle.model.specs.Results.{result_code, accepted, decide}
@@ -40,9 +37,9 @@ conclude s g frame request result =
     (fail s frame result)
 
 abbrev pub handle_judged : Shelf → ℕ → List ℕ → Judged → Handled
-handle_judged s g frame (NoFrame house) = refuse s house
-handle_judged s g frame (Fails result) = fail s frame result
-handle_judged s g frame (Asked request) = conclude s g frame request (decide s g frame request)
+handle_judged s g frame (Err (NoFrame house)) = refuse s house
+handle_judged s g frame (Err (Fails failure)) = fail s frame (Err failure)
+handle_judged s g frame (Ok request) = conclude s g frame request (decide s g frame request)
 
 -- H5: "response buffer shorter than 1,028 bytes". Nothing else says this number: the code has it as `model::LEAST_BUFFER`.
 abbrev pub least_buffer : ℕ
@@ -66,8 +63,8 @@ lent out (Sends bytes) = over out bytes
 
 -- What the caller is told: the house refusal, or the length of the response.
 abbrev pub answer : Reply → Answer
-answer (Refuses house) = NoResponse house
-answer (Sends bytes) = Response (length bytes)
+answer (Refuses house) = Err house
+answer (Sends bytes) = Ok (length bytes)
 
 -- Source group, request frame and lent buffer give the answer with the next shelf, and the buffer afterwards.
 unfoldable pub served : Shelf → ℕ → List ℕ → List ℕ → Served

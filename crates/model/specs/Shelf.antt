@@ -1,5 +1,5 @@
 -- "The shelf": its phys, how a new one starts, and how one of its phys is put back changed.
-use Rattle.std.specs.Prelude.{ℕ, min, Bool, true, not, cond, List, [], ◌∷◌, ltb, get_or, set, replicate}
+use Rattle.std.specs.Prelude.{ℕ, min, Bool, true, not, cond, List, [], ◌∷◌, ltb, get_or, set, replicate, Ok, Err}
 use Rattle.model.specs.declared.Entry.{Entry}
 use Rattle.model.specs.declared.House.TheVariants.{PhyNumber, PhyGroup, IllegalTable}
 use Rattle.model.specs.declared.Monitor.{Monitor}
@@ -7,8 +7,7 @@ use Rattle.model.specs.declared.Outcome.{Outcome}
 use Rattle.model.specs.declared.Phy.{Phy}
 use Rattle.model.specs.declared.Shelf.{Shelf}
 use Rattle.model.specs.declared.Store.{Store}
-use Rattle.model.specs.declared.Taken.{Taken}
-use Rattle.model.specs.declared.Taken.TheVariants.{Done, NotDone}
+use Rattle.model.specs.Answers.{Taken}
 use Rattle.model.specs.Bytes.{zeros}
 use Rattle.model.specs.Tests.{given, within, all_below, join_below}
 use Rattle.model.specs.Zone.{zone_group, legal_table}
@@ -128,8 +127,8 @@ no_shelf = fresh_shelf 0 (zeros 24) (zeros 32) (zeros 8)
 
 -- What is told, with the shelf afterwards: the new one where it was done, the old one where it was refused.
 abbrev pub outcome : Taken → Shelf → Shelf → Outcome
-outcome Done old new = record { taken = Done; shelf = new }
-outcome (NotDone house) old new = record { taken = NotDone house; shelf = old }
+outcome (Ok done) old new = record { taken = Ok tt; shelf = new }
+outcome (Err house) old new = record { taken = Err house; shelf = old }
 
 -- the groups of the n phys are zone groups
 abbrev pub groups_fit : ℕ → List ℕ → Bool
@@ -138,10 +137,10 @@ groups_fit n groups = all_below n (λ p. zone_group (get_or groups p 0))
 -- H1 "phy number not 1 to 24", H2 "a phy's group is above 31", H3 "table not legal"
 unfoldable pub start_taken : ℕ → List ℕ → List ℕ → Taken
 start_taken n groups table =
-    given (not (within 1 24 n)) (NotDone PhyNumber)
-    (given (not (groups_fit n groups)) (NotDone PhyGroup)
-    (given (not (legal_table table)) (NotDone IllegalTable)
-    Done))
+    given (not (within 1 24 n)) (Err PhyNumber)
+    (given (not (groups_fit n groups)) (Err PhyGroup)
+    (given (not (legal_table table)) (Err IllegalTable)
+    (Ok tt)))
 
 -- "A start takes phy number, 24 groups .., table and identifier."
 unfoldable pub start : ℕ → List ℕ → List ℕ → List ℕ → Outcome

@@ -8,7 +8,7 @@ use Rattle.model.specs.declared.Effect.{Effect}
 use Rattle.model.specs.declared.Entry.{Entry}
 use Rattle.model.specs.declared.Shelf.{Shelf}
 use Rattle.model.specs.declared.Store.{Store}
-use Rattle.model.specs.Counting.{originate, originate_if, picked}
+use Rattle.model.specs.Counting.{originate, originate_if, stored_ones}
 use Rattle.model.specs.Shelf.{entry_of, no_entry, put, put_store}
 use Rattle.model.specs.Tests.{one_of, join_below}
 
@@ -39,9 +39,9 @@ abbrev pub store_all : Store → List Entry → Store
 store_all k [] = k
 store_all k (e ∷ es) = store_all (store k e) es
 
--- what an effect stores of phy p: those of its monitors that are marked, in monitor order
+-- what an effect stores of phy p, in monitor order
 abbrev pub entries_of : ℕ → Effect → List Entry
-entries_of p e = map (entry_of p) (picked e.stored e.monitors)
+entries_of p e = map (entry_of p) (stored_ones e.stored)
 
 -- What is done to phy p, carried out on the shelf. "Change also moves the change count the same way."
 abbrev pub carried_out : Shelf → ℕ → Effect → Shelf

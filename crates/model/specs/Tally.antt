@@ -1,10 +1,9 @@
 -- #104 over a run: what is known of one error count to somebody who hears every report with its answer, and every 91h with its response,
 -- and never looks at the count. A drive's disparity count "stood at FFFFFFFFh for weeks and nobody noticed": `proofs/Demands/ErrorCounts`
 -- shows that he knows what it stands at.
-use Rattle.std.specs.Prelude.{ℕ, ◌+◌, Bool, false, cond, ◌&&◌, ◌||◌, List, [], ◌∷◌, eqb}
-use Rattle.model.specs.declared.EventAnswer.{EventAnswer}
-use Rattle.model.specs.declared.EventAnswer.TheVariants.{Counted, NotCounted}
+use Rattle.std.specs.Prelude.{ℕ, ◌+◌, Bool, false, cond, ◌&&◌, ◌||◌, List, [], ◌∷◌, eqb, Err, Ok}
 use Rattle.model.specs.declared.Shelf.{Shelf}
+use Rattle.model.specs.Answers.{EventAnswer, told_cut}
 use Rattle.model.specs.Bytes.{byte}
 use Rattle.model.specs.House.{answer_number}
 use Rattle.model.specs.Reports.{event}
@@ -22,8 +21,8 @@ no_tally = record { sum = 0; cut = false }
 
 -- a report of the phy and the source that are tallied, with its answer: one that is refused adds nothing
 abbrev pub heard : Tally → ℕ → EventAnswer → Tally
-heard t amount (Counted cut) = record { sum = t.sum + amount; cut = t.cut || cut }
-heard t amount (NotCounted house) = t
+heard t amount (Ok counted) = record { sum = t.sum + amount; cut = t.cut || counted.cut }
+heard t amount (Err house) = t
 
 -- An accepted request: no house refusal, and "byte 2 the result" is 00h.
 abbrev pub is_accepted : Shelf → ℕ → List ℕ → List ℕ → Bool

@@ -8,8 +8,8 @@
 // H5: "response buffer shorter than 1,028 bytes" (`least_buffer` of specs/Server).
 pub const LEAST_BUFFER: usize = 1028;
 
-// A monitor has an event source, a 32-bit value and a 32-bit threshold.
-#[derive(Clone, Copy)]
+// A monitor has an event source, a 32-bit value and a 32-bit threshold; at the start all are 0.
+#[derive(Clone, Copy, Default)]
 pub struct Monitor {
     pub source: u8,
     pub value: u32,
@@ -33,14 +33,13 @@ pub struct Phy {
 }
 
 // What a write or a report does to the phy that it names: the phy afterwards; whether it originated Change, which moves
-// the change count too; and for the list of stored peak events (#101) the phy's monitors as they stand when they are
-// stored, and of each whether it is (`carried_out` of specs/Store).
+// the change count too; and for the list of stored peak events (#101), in the place of each of the phy's monitors, that
+// monitor as it stands when it is stored, if it is (`carried_out` of specs/Store).
 #[derive(Clone, Copy)]
 pub struct Effect {
     pub phy: Phy,
     pub change: bool,
-    pub monitors: [Monitor; 4],
-    pub stored: [bool; 4],
+    pub stored: [Option<Monitor>; 4],
 }
 
 // What adding to an error count comes to (#104): the new number, and whether the exact sum was above FFFFFFFFh.
@@ -51,7 +50,7 @@ pub struct Added {
 }
 
 // An entry of the list of stored peak events: the phy, and its monitor (source, value and threshold) as it stood.
-#[derive(Clone, Copy)]
+#[derive(Clone, Copy, Default)]
 pub struct Entry {
     pub phy: u8,
     pub monitor: Monitor,
@@ -89,37 +88,40 @@ pub struct Shelf {
     pub store: Store,
 }
 
-// The house refusals, H1 to H10 in this order; `house_number` gives each its number. By #103 `CutFrame` is H6
-// alone, and `WrongFrame` is H10.
-#[derive(Clone, Copy)]
+// The house refusals, each with its number, H1 to H10 (`house_number` of specs/House). By #103 `CutFrame` is H6 alone, and
+// `WrongFrame` is H10.
+#[derive(Clone, Copy, Debug, PartialEq, Eq)]
 pub enum House {
-    PhyNumber,
-    PhyGroup,
-    IllegalTable,
-    SourceGroup,
-    ShortBuffer,
-    CutFrame,
-    NoSuchPhy,
-    EventSource,
-    Amount,
-    WrongFrame,
+    PhyNumber = 1,
+    PhyGroup = 2,
+    IllegalTable = 3,
+    SourceGroup = 4,
+    ShortBuffer = 5,
+    CutFrame = 6,
+    NoSuchPhy = 7,
+    EventSource = 8,
+    Amount = 9,
+    WrongFrame = 10,
 }
 
-// The function results by their T10 names; `result_code` gives each its code.
-#[derive(Clone, Copy)]
-pub enum FunctionResult {
-    Accepted,
-    UnknownSmpFunction,
-    SmpFunctionFailed,
-    InvalidRequestFrameLength,
-    InvalidExpanderChangeCount,
-    PhyDoesNotExist,
-    UnknownPhyOperation,
-    PhyVacant,
-    UnknownPhyEventSource,
-    SmpZoneViolation,
-    NoManagementAccessRights,
+// The function results by which a request fails, by their T10 names and each with its code (`failure_code` of
+// specs/Results).
+#[derive(Clone, Copy, Debug, PartialEq, Eq)]
+pub enum Failure {
+    UnknownSmpFunction = 0x01,
+    SmpFunctionFailed = 0x02,
+    InvalidRequestFrameLength = 0x03,
+    InvalidExpanderChangeCount = 0x04,
+    PhyDoesNotExist = 0x10,
+    UnknownPhyOperation = 0x13,
+    PhyVacant = 0x16,
+    UnknownPhyEventSource = 0x17,
+    SmpZoneViolation = 0x20,
+    NoManagementAccessRights = 0x21,
 }
+
+// The function result of a request that draws no house refusal: accepted, which is 00h, or the failure.
+pub type FunctionResult = Result<(), Failure>;
 
 // A request frame as it was read: one variant to a function, with the bytes that it names. (The expected count, two
 // bytes, is held in 32 bits: so the compiler keeps the variants apart, docs/BENCH.md.)
@@ -166,20 +168,18 @@ pub struct Grounds {
     pub management: bool,
 }
 
-// What judging one request frame alone yields: the read request, a house refusal or a failed result.
-#[derive(Clone, Copy)]
-pub enum Judged {
-    Asked(Request),
+// Why no request can be read from a frame: no frame is written, or a failed result is.
+#[derive(Clone, Copy, Debug, PartialEq, Eq)]
+pub enum Fault {
     NoFrame(House),
-    Fails(FunctionResult),
+    Fails(Failure),
 }
 
+// What judging one request frame alone yields: the read request, or a house refusal or a failed result.
+pub type Judged = Result<Request, Fault>;
+
 // What a start or a link change is told, and what an event report is judged to be: done, or the house refusal.
-#[derive(Clone, Copy)]
-pub enum Taken {
-    Done,
-    NotDone(House),
-}
+pub type Taken = Result<(), House>;
 
 // What a start or a link change comes to: what is told, and the shelf afterwards.
 #[derive(Clone, Copy)]
@@ -188,13 +188,14 @@ pub struct Outcome {
     pub shelf: Shelf,
 }
 
-// The answer to an event report (#104): counted, and whether its own addition to an error count was cut; or the house
-// refusal.
-#[derive(Clone, Copy)]
-pub enum EventAnswer {
-    Counted { cut: bool },
-    NotCounted(House),
+// What is told of an event report that was counted (#104): whether its own addition to an error count was cut.
+#[derive(Clone, Copy, Debug, PartialEq, Eq)]
+pub struct Counted {
+    pub cut: bool,
 }
+
+// The answer to an event report: counted, or the house refusal.
+pub type EventAnswer = Result<Counted, House>;
 
 // What an event report comes to: its answer, and the shelf afterwards.
 #[derive(Clone, Copy)]
@@ -203,19 +204,18 @@ pub struct EventOutcome {
     pub shelf: Shelf,
 }
 
-// The answer to a reach query: the set of phys as a 32-bit number and how many they are, or H4.
-#[derive(Clone, Copy)]
-pub enum Reach {
-    Reaches { phys: u32, number: u32 },
-    NoReach(House),
+// What a reach query gives: the set of phys as a 32-bit number, and how many they are.
+#[derive(Clone, Copy, Debug, PartialEq, Eq)]
+pub struct Reached {
+    pub phys: u32,
+    pub number: u32,
 }
 
+// The answer to a reach query, or H4.
+pub type Reach = Result<Reached, House>;
+
 // The answer to a request: the length of the response in the lent buffer, or the house refusal.
-#[derive(Clone, Copy)]
-pub enum Answer {
-    Response(usize),
-    NoResponse(House),
-}
+pub type Answer = Result<usize, House>;
 
 // What a request comes to: its answer, and the shelf afterwards.
 #[derive(Clone, Copy)]

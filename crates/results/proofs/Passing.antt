@@ -1,15 +1,16 @@
 -- A result that is not accepted ends the judging, and one that is lets it go on. Assumes nothing.
+use Rattle.std.specs.Prelude.{Ok, Err}
 use Prim.Native.Nat.{ℕ}
 use mathlib.Core.Path.{◌≡◌, refl, sym, ap, ◌∙◌}
 use mathlib.Core.Bool.{Bool, true, false, true≢false, false≢true}
-use Rattle.model.specs.declared.FunctionResult.{FunctionResult}
-use Rattle.model.specs.declared.FunctionResult.TheVariants.{Accepted, UnknownSmpFunction, SmpFunctionFailed}
-use Rattle.model.specs.declared.FunctionResult.TheVariants.{InvalidRequestFrameLength}
-use Rattle.model.specs.declared.FunctionResult.TheVariants.{InvalidExpanderChangeCount, PhyDoesNotExist}
-use Rattle.model.specs.declared.FunctionResult.TheVariants.{UnknownPhyOperation, PhyVacant}
-use Rattle.model.specs.declared.FunctionResult.TheVariants.{UnknownPhyEventSource, SmpZoneViolation}
-use Rattle.model.specs.declared.FunctionResult.TheVariants.{NoManagementAccessRights}
+use Rattle.model.specs.declared.Failure.TheVariants.{UnknownSmpFunction, SmpFunctionFailed}
+use Rattle.model.specs.declared.Failure.TheVariants.{InvalidRequestFrameLength}
+use Rattle.model.specs.declared.Failure.TheVariants.{InvalidExpanderChangeCount, PhyDoesNotExist}
+use Rattle.model.specs.declared.Failure.TheVariants.{UnknownPhyOperation, PhyVacant}
+use Rattle.model.specs.declared.Failure.TheVariants.{UnknownPhyEventSource, SmpZoneViolation}
+use Rattle.model.specs.declared.Failure.TheVariants.{NoManagementAccessRights}
 use Rattle.model.specs.declared.Grounds.{Grounds}
+use Rattle.model.specs.Answers.{FunctionResult}
 use Rattle.model.specs.Results.{accepted, count_right, check_write}
 use Rattle.model.specs.Tests.{check}
 

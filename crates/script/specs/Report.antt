@@ -1,12 +1,9 @@
 -- The reports of a script.
-use Rattle.std.specs.Prelude.{ℕ, zero, suc, false, cond, List}
-use Rattle.model.specs.declared.EventAnswer.{EventAnswer}
-use Rattle.model.specs.declared.EventAnswer.TheVariants.{Counted}
+use Rattle.std.specs.Prelude.{ℕ, zero, suc, false, cond, List, Ok}
 use Rattle.model.specs.declared.EventOutcome.{EventOutcome}
 use Rattle.model.specs.declared.Outcome.{Outcome}
 use Rattle.model.specs.declared.Shelf.{Shelf}
-use Rattle.model.specs.declared.Taken.{Taken}
-use Rattle.model.specs.declared.Taken.TheVariants.{Done}
+use Rattle.model.specs.Answers.{EventAnswer, Taken, told_cut}
 use Rattle.model.specs.Bytes.{text}
 use Rattle.model.specs.Reports.{event_answer, event, link_change, reduced_functionality, ses_notice}
 use Rattle.model.specs.Tests.{given}
@@ -68,8 +65,8 @@ unfoldable pub make_report : List ℕ → Report → Made
 make_report ws (Event phy source amount) =
     let o : EventOutcome = event (shelf_of ws) phy source amount in made ws o.answer o.shelf
 make_report ws (LinkChange phy) = let o : Outcome = link_change (shelf_of ws) phy in made_uncut ws o.taken o.shelf
-make_report ws ReducedFunctionality = made_uncut ws Done (reduced_functionality (shelf_of ws))
-make_report ws SesNotice = made_uncut ws Done (ses_notice (shelf_of ws))
+make_report ws ReducedFunctionality = made_uncut ws (Ok tt) (reduced_functionality (shelf_of ws))
+make_report ws SesNotice = made_uncut ws (Ok tt) (ses_notice (shelf_of ws))
 
 -- makes it that many times more
 unfoldable pub make_more : Made → Report → ℕ → Made
@@ -78,4 +75,4 @@ make_more before report (suc times) = make_more (make_report before.words report
 
 -- .. that many times in all; 0 times come to a report that is counted and not cut, with the words as they were
 abbrev pub make_times : List ℕ → Report → ℕ → Made
-make_times ws report times = make_more (record { answer = Counted false; words = ws }) report times
+make_times ws report times = make_more (record { answer = told_cut false; words = ws }) report times

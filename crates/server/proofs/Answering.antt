@@ -1,16 +1,16 @@
 -- How a request is answered, part by part: the bytes that a copy or a result leaves in the lent buffer, and the words after a read and
 -- after a write.
 -- Assumes nothing.
+use Rattle.std.specs.Prelude.{Ok, Err}
 use Prim.Native.Nat.{ℕ, ◌≤◌}
 use mathlib.Core.Path.{◌≡◌, sym, ◌∙◌}
 use mathlib.Core.Bool.{Bool, true, false, cond}
 use mathlib.Core.List.{List}
 use lib.ListN.{length}
-use Rattle.model.specs.declared.FunctionResult.{FunctionResult}
-use Rattle.model.specs.declared.FunctionResult.TheVariants.{Accepted}
 use Rattle.model.specs.declared.Phy.{Phy}
 use Rattle.model.specs.declared.Request.{Request}
 use Rattle.model.specs.declared.Shelf.{Shelf}
+use Rattle.model.specs.Answers.{FunctionResult}
 use Rattle.model.specs.Reply.{failed, respond}
 use Rattle.model.specs.Results.{result_code}
 use Rattle.model.specs.Server.{least_buffer}

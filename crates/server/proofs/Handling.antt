@@ -1,18 +1,16 @@
 -- What `served` and `lent_after` come to, way by way through `serve`. Assumes nothing.
+use Rattle.std.specs.Prelude.{Ok, Err}
 use Prim.Native.Nat.{ℕ, ◌≤◌, ◌<◌}
 use mathlib.Core.Path.{◌≡◌, refl, ap, ◌∙◌}
 use mathlib.Core.Bool.{Bool, true, false, cond}
 use mathlib.Core.List.{List}
 use borrow.Author.Tests.{lt-ltb, le-ltb}
 use lib.ListN.{length}
-use Rattle.model.specs.declared.Answer.{Answer}
-use Rattle.model.specs.declared.Answer.TheVariants.{Response}
-use Rattle.model.specs.declared.FunctionResult.{FunctionResult}
 use Rattle.model.specs.declared.House.TheVariants.{SourceGroup, ShortBuffer}
-use Rattle.model.specs.declared.Judged.{Judged}
-use Rattle.model.specs.declared.Judged.TheVariants.{Asked, NoFrame, Fails}
+use Rattle.model.specs.declared.Fault.TheVariants.{NoFrame, Fails}
 use Rattle.model.specs.declared.Request.{Request}
 use Rattle.model.specs.declared.Shelf.{Shelf}
+use Rattle.model.specs.Answers.{Answer, FunctionResult, Judged}
 use Rattle.model.specs.Reply.{failed, respond}
 use Rattle.model.specs.Request.{function_of, judge}
 use Rattle.model.specs.Results.{result_code, accepted, decide}
@@ -24,7 +22,7 @@ use Rattle.server.specs.Serving.{judged_reply, drawn, leaves}
 
 -- what the `else` of a `let Judged::Asked(request) = ..` knows: another variant stands there
 abbrev pub NotAsked : Judged → Type 0
-NotAsked judged = (request : Request) → judged ≡ Asked request → ⊥
+NotAsked judged = (request : Request) → judged ≡ Ok request → ⊥
 
 module _ (ws : List ℕ) (g : ℕ) (frame out : List ℕ) where
   abbrev s : Shelf
@@ -59,9 +57,9 @@ module _ (ws : List ℕ) (g : ℕ) (frame out : List ℕ) where
     -- where no request was read, the judgement is answered and the shelf stays
     turned : (judged : Judged) → NotAsked judged
         → handle_judged s g frame judged ≡ record { reply = judged_reply (function_of frame) judged; shelf = s }
-    turned (Asked request) e = absurd (e request refl)
-    turned (NoFrame house) e = refl
-    turned (Fails result) e = refl
+    turned (Ok request) e = absurd (e request refl)
+    turned (Err (NoFrame house)) e = refl
+    turned (Err (Fails result)) e = refl
 
     pub serves_judged : NotAsked (judge frame) → ws ≡ laid_over ws s → {told : Answer} {left : List ℕ}
         → let reply = judged_reply (function_of frame) (judge frame) in
@@ -83,13 +81,13 @@ module _ (ws : List ℕ) (g : ℕ) (frame out : List ℕ) where
         go true = refl
         go false = refl
 
-    pub serves_asked : (request : Request) → judge frame ≡ Asked request → {size : ℕ} {words left : List ℕ}
+    pub serves_asked : (request : Request) → judge frame ≡ Ok request → {size : ℕ} {words left : List ℕ}
         → Answers out (drawn s g request (function_of frame) (decide s g frame request)) size left
         → words ≡ laid_over ws (leaves s frame request (decide s g frame request))
-        → Serves (Response size) words left
+        → Serves (Ok size) words left
     serves_asked request asks sent kept =
         serves _
         (judged_handled ∙ ap (handle_judged s g frame) asks ∙ conclude_halves request (decide s g frame request))
-        (ap Response sent.0)
+        (ap Ok sent.0)
         kept
         sent.1

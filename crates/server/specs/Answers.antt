@@ -1,8 +1,8 @@
 -- A request that was read, on the shelf in lent words: the bytes that answer it stand in the lent buffer, and the words are those of the
 -- shelf that it leaves.
 use Rattle.std.specs.Prelude.{ℕ, ◌≡◌, cond, List, length}
-use Rattle.model.specs.declared.FunctionResult.{FunctionResult}
 use Rattle.model.specs.declared.Shelf.{Shelf}
+use Rattle.model.specs.Answers.{FunctionResult}
 use Rattle.model.specs.Results.{accepted}
 use Rattle.model.specs.Server.{over}
 use Rattle.words.specs.Words.{shelf_of, laid_over}

@@ -1,5 +1,6 @@
 -- After every call the words stand for the model's next shelf, and so after a start. A call lays the shelf that comes of it over
 -- the words that it found. Nothing is asked but what the types say: words of 32 bits, bytes, 32-bit amounts. Assumes nothing.
+use Rattle.std.specs.Prelude.{Ok}
 use Prim.Native.Nat.{ℕ, ◌+◌, ◌≤◌}
 use native.Mathlib.Omega.{arith}
 use mathlib.Core.Path.{◌≡◌, refl}
@@ -8,7 +9,6 @@ use lib.ListN.{take, replicate}
 use Rattle.model.specs.declared.Outcome.{Outcome}
 use Rattle.model.specs.declared.Shelf.{Shelf}
 use Rattle.model.specs.declared.Store.{Store}
-use Rattle.model.specs.declared.Taken.TheVariants.{Done}
 use Rattle.model.specs.Bytes.{byte}
 use Rattle.model.specs.Fits.{StoreFits, Fits, StartFits, OperationFits}
 use Rattle.model.specs.Runs.{Operation, next}
@@ -76,12 +76,12 @@ module _ (ws : List ℕ) (o : Operation) (memory : Memory ws) (fit : OperationFi
 
 -- ---- A start that was not refused
 
-pub done_words : (ws : List ℕ) (outcome : Outcome) → outcome.taken ≡ Done → started_words ws outcome ≡ words_of outcome.shelf
+pub done_words : (ws : List ℕ) (outcome : Outcome) → outcome.taken ≡ Ok tt → started_words ws outcome ≡ words_of outcome.shelf
 done_words ws outcome done = rw done
 
 -- of a table of 32 words and an identifier of 8 bytes
 
-module _ (n : ℕ) (groups table identifier : List ℕ) (fit : StartFits table identifier) (done : start_taken n groups table ≡ Done) where
+module _ (n : ℕ) (groups table identifier : List ℕ) (fit : StartFits table identifier) (done : start_taken n groups table ≡ Ok tt) where
   fresh_fits : Fits (start n groups table identifier).shelf
   fresh_fits = (start_sound n groups table identifier fit done).fits
 

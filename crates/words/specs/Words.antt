@@ -2,15 +2,14 @@
 -- shelf that such words stand for, and the words with another shelf laid over them. How many words there are is in `Sizes`.
 --
 -- A number that is narrower than 32 bits stands in the low bits of its word; the bits above are not read, and stay.
-use Rattle.std.specs.Prelude.{ℕ, zero, suc, ◌+◌, ◌*◌, ◌/◌, ◌%◌, cond, List, [], ◌∷◌, ◌++◌, map, eqb, get_or, take, drop, replicate}
+use Rattle.std.specs.Prelude.{ℕ, zero, suc, ◌+◌, ◌*◌, ◌/◌, ◌%◌, cond, List, [], ◌∷◌, ◌++◌, map, eqb, get_or, take, drop, replicate, Ok, Err}
 use Rattle.model.specs.declared.Entry.{Entry}
 use Rattle.model.specs.declared.Monitor.{Monitor}
 use Rattle.model.specs.declared.Outcome.{Outcome}
 use Rattle.model.specs.declared.Phy.{Phy}
 use Rattle.model.specs.declared.Shelf.{Shelf}
 use Rattle.model.specs.declared.Store.{Store}
-use Rattle.model.specs.declared.Taken.{Taken}
-use Rattle.model.specs.declared.Taken.TheVariants.{Done, NotDone}
+use Rattle.model.specs.Answers.{Taken}
 use Rattle.model.specs.Bytes.{byte}
 use Rattle.model.specs.Reply.{error_at, monitor_at}
 use Rattle.model.specs.Shelf.{monitor, entry_of}
@@ -150,8 +149,8 @@ abbrev pub words_of : Shelf → List ℕ
 words_of s = laid_over (replicate shelf_words 0) s
 
 abbrev pub started_as : List ℕ → Taken → Shelf → List ℕ
-started_as ws Done s = words_of s
-started_as ws (NotDone house) s = ws
+started_as ws (Ok tt) s = words_of s
+started_as ws (Err house) s = ws
 
 -- The words after a start: those of the fresh shelf; or, where it is refused, as they were: "A refused start gives no device."
 abbrev pub started_words : List ℕ → Outcome → List ℕ

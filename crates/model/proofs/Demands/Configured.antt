@@ -18,7 +18,7 @@ use Rattle.model.specs.declared.Phy.{Phy}
 use Rattle.model.specs.declared.Request.TheVariants.{ConfigurePhyEvent}
 use Rattle.model.specs.declared.Shelf.{Shelf}
 use Rattle.model.specs.Bytes.{byte}
-use Rattle.model.specs.Counting.{originate, originate_if, quiet, picked, with_value}
+use Rattle.model.specs.Counting.{originate, originate_if, quiet, picked, stored_ones, with_value}
 use Rattle.model.specs.Fits.{Placed}
 use Rattle.model.specs.Reply.{monitor_at}
 use Rattle.model.specs.Request.{clears, descriptor_source, descriptor_threshold}
@@ -30,7 +30,7 @@ use Rattle.model.specs.Writes.{any_peak, peaks, clear_on, configured, doing, eff
 use Rattle.model.proofs.Demands.Invariant.{phy_placed}
 use Rattle.model.proofs.Laws.Tests.{is_true, is_false, and_iff, not_both_iff, both_iff, cond_iff, cond_both, eqb_iff}
 use Rattle.model.proofs.Laws.PhyChanges.{configured_inner}
-use Rattle.model.proofs.Plain.Counting.{none_picked}
+use Rattle.model.proofs.Plain.Counting.{stored_marked}
 use Rattle.model.proofs.Plain.Shelf.{OnlyPhy, same_shelf, put_same, put_only}
 use Rattle.model.proofs.Plain.Writes.{set_length, set_at_lem, HasPeak, any_peak_iff}
 
@@ -224,15 +224,15 @@ module _ (frame : List ℕ) (x : Phy) where
   clear_stores = cond (clears frame) (picked (peaks monitors_set) monitors_set) []
 
   configured_stores : let e : Effect = configured frame (byte frame 11) (clears frame) x in
-      picked e.stored e.monitors ≡ clear_stores
+      stored_ones e.stored ≡ clear_stores
   unfolding configured set_on clear_on
   configured_stores = go (clears frame)
     where
       go : (clear : Bool)
           → (let e : Effect = cond clear (clear_on (set_on frame (byte frame 11) x)) (quiet (set_on frame (byte frame 11) x)) in
-          picked e.stored e.monitors ≡ cond clear (picked (peaks monitors_set) monitors_set) [])
-      go true = refl
-      go false = none_picked 4 monitors_set
+          stored_ones e.stored ≡ cond clear (picked (peaks monitors_set) monitors_set) [])
+      go true = stored_marked (peaks monitors_set) monitors_set
+      go false = refl
 
   number_after : length x.monitors ≡ 4 → length monitors_after ≡ 4
   number_after four = cleared_length (clears frame) monitors_set ∙ set_length frame (byte frame 11) 0 x.monitors ∙ four

@@ -17,7 +17,6 @@ use Rattle.model.specs.Shelf.{exists, phy_at, phy_with}
 use Rattle.model.specs.Writes.{controlled, doing, effect}
 use Rattle.model.proofs.Demands.Invariant.{phy_placed}
 use Rattle.model.proofs.Laws.Tests.{by_each}
-use Rattle.model.proofs.Plain.Counting.{none_picked}
 use Rattle.model.proofs.Plain.Results.{known_operations}
 use Rattle.model.proofs.Plain.Shelf.{OnlyPhy, same_shelf, put_same, put_only}
 use Rattle.model.proofs.Plain.Writes.{controlled_stores}
@@ -58,10 +57,10 @@ controlled_effect s frame expected p operation placed there =
     let (h, _) = phy_placed s p placed there in
     record {
       only = put_only s p _ _;
-      none = λ e. rw (e, set-get_or, none_picked 4 (phy_at s p).monitors);
+      none = λ e. rw (e, set-get_or);
       link_reset = λ e. rw e (put_same s p _ s.changes h, refl);
       disable = λ e on. rw (e, on) (put_same s p _ s.changes h, refl);
-      disabled_already = λ e off. rw (e, off, set-get_or, none_picked 4 (phy_at s p).monitors);
+      disabled_already = λ e off. rw (e, off, set-get_or);
       clear_errors = λ e. rw e (put_same s p _ s.changes h, refl);
       store = controlled_stores s.store p operation (phy_at s p);
     }

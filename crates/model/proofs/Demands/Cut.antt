@@ -5,8 +5,8 @@ use mathlib.Core.Logic.Iff
 use mathlib.Core.Logic.{◌↔◌}
 use mathlib.Core.Bool.{Bool, true}
 use lib.Dec.{T}
-use Rattle.model.specs.declared.EventAnswer.TheVariants.{Counted}
 use Rattle.model.specs.declared.Shelf.{Shelf}
+use Rattle.model.specs.Answers.{told_cut}
 use Rattle.model.specs.Counting.{error_cut}
 use Rattle.model.specs.Reply.{error_at}
 use Rattle.model.specs.Reports.{event_taken, event}
@@ -24,7 +24,7 @@ pub record CutBy (s : Shelf) (p source amount : ℕ) : Type 0 where
 
 -- An event report is told "counted", and cut or not, exactly if none of H7, H8 and H9 applies, and its own addition was cut or not.
 pub event_told_lem : (s : Shelf) (p source amount : ℕ) (cut : Bool)
-    → ((event s p source amount).answer ≡ Counted cut)
+    → ((event s p source amount).answer ≡ told_cut cut)
     ↔ (Reportable s p source amount × (T cut ↔ CutBy s p source amount))
 unfolding event
 event_told_lem s p source amount cut =
@@ -39,7 +39,7 @@ event_told_lem s p source amount cut =
 
 -- so it is told as cut exactly in this case
 pub event_cut : (s : Shelf) (p source amount : ℕ)
-    → ((event s p source amount).answer ≡ Counted true)
+    → ((event s p source amount).answer ≡ told_cut true)
     ↔ (Reportable s p source amount × CutBy s p source amount)
 event_cut s p source amount =
     Iff.trans (event_told_lem s p source amount true)

@@ -1,5 +1,6 @@
 -- #104, "Say when an error count has stuck", over any run from a start: an error count is the exact sum of the accepted amounts since the
 -- last 05h or the start until one of them was told as cut, and FFFFFFFFh from then on; so one that was never cut is exact. Assumes nothing.
+use Rattle.std.specs.Prelude.{Err, Ok}
 use Prim.Native.Nat.{ℕ, ◌+◌, ◌-◌, ◌≤◌, ◌<◌, min}
 use native.Mathlib.Omega.{arith}
 use mathlib.Core.Path.{◌≡◌, refl, sym, subst, subst⁻¹}
@@ -8,9 +9,8 @@ use mathlib.Core.Logic.{◌↔◌}
 use mathlib.Core.Bool.{Bool, true, false, cond, ◌&&◌, ◌||◌, false≢true}
 use mathlib.Core.List.{List, [], ◌∷◌}
 use lib.Dec.{T, eqb}
-use Rattle.model.specs.declared.EventAnswer.{EventAnswer}
-use Rattle.model.specs.declared.EventAnswer.TheVariants.{Counted, NotCounted}
 use Rattle.model.specs.declared.Shelf.{Shelf}
+use Rattle.model.specs.Answers.{EventAnswer, told_cut}
 use Rattle.model.specs.Bytes.{byte}
 use Rattle.model.specs.Fits.{Placed}
 use Rattle.model.specs.House.{answer_number}
@@ -45,7 +45,7 @@ cut_stands more = record { exact = λ e. absurd (false≢true (sym e)); stuck = 
 
 -- a report more: its amount is added, and what it is told is noted
 report_stands : (t : Tally) (count amount : ℕ) (cut : Bool) → Stands t count → T cut ↔ (0xFFFFFFFF < count + amount)
-    → Stands (heard t amount (Counted cut)) (min (count + amount) 0xFFFFFFFF)
+    → Stands (heard t amount (told_cut cut)) (min (count + amount) 0xFFFFFFFF)
 report_stands t count amount cut stands tells = go t.cut refl cut refl
   where
     After : Bool → ℕ → Type 0
@@ -92,11 +92,11 @@ module _ (s : Shelf) (placed : Placed s) (p k : ℕ) (below : k < 4) (t : Tally)
   -- a report of this phy and source, by its answer
   ours_stands : (amount : ℕ) (answer : EventAnswer) → (event s p (k + 1) amount).answer ≡ answer
       → Stands (heard t amount answer) (count_of p k (event s p (k + 1) amount).shelf)
-  ours_stands amount (Counted cut) told =
+  ours_stands amount (Ok counted) told =
       let place : k + 1 - 1 ≡ k = omega arith in
-      subst⁻¹ (Stands (heard t amount (Counted cut))) (report_adds s placed p k below amount told)
-      (report_stands t (count_of p k s) amount cut stands
-      (Iff.trans ((event_told_lem s p (k + 1) amount cut).0 told).1 (
+      subst⁻¹ (Stands (heard t amount (Ok counted))) (report_adds s placed p k below amount told)
+      (report_stands t (count_of p k s) amount counted.cut stands
+      (Iff.trans ((event_told_lem s p (k + 1) amount counted.cut).0 told).1 (
         λ c. subst (λ i. 0xFFFFFFFF < count_of p i s + amount) place c.above,
         λ more.
             record {
@@ -105,7 +105,7 @@ module _ (s : Shelf) (placed : Placed s) (p k : ℕ) (below : k < 4) (t : Tally)
               above = subst⁻¹ (λ i. 0xFFFFFFFF < count_of p i s + amount) place more;
             },
       )))
-  ours_stands amount (NotCounted house) told =
+  ours_stands amount (Err house) told =
       subst⁻¹ (λ after. Stands t (count_of p k after)) (refused_stays s p (k + 1) amount told) stands
 
   event_stands : (q source amount : ℕ)

@@ -1,16 +1,16 @@
 -- What one operation does to one error count, by what is said of its whole effect: a report of its phy and source adds, an accepted 05h of
 -- its phy sets it to 0, and everything else leaves it. And a start has it at 0. Assumes nothing.
+use Rattle.std.specs.Prelude.{Err, Ok}
 use Prim.Native.Nat.{ℕ, ◌+◌, ◌≤◌, ◌<◌, min}
 use mathlib.Core.Path.{◌≡◌, refl, sym, ap, subst, subst⁻¹, ◌∙◌}
 use mathlib.Core.Bool.{Bool, true, false}
 use mathlib.Core.List.{List, Memᴰ}
 use borrow.Author.Tests.{ltb-true, ltb-false, eqb-true, eqb-false}
 use lib.Dec.{ltb, eqb}
-use Rattle.model.specs.declared.EventAnswer.{EventAnswer}
-use Rattle.model.specs.declared.EventAnswer.TheVariants.{Counted, NotCounted}
 use Rattle.model.specs.declared.House.{House}
 use Rattle.model.specs.declared.Phy.{Phy}
 use Rattle.model.specs.declared.Shelf.{Shelf}
+use Rattle.model.specs.Answers.{EventAnswer, told_cut}
 use Rattle.model.specs.Bytes.{byte}
 use Rattle.model.specs.Counting.{change_on}
 use Rattle.model.specs.Fits.{Placed}
@@ -59,7 +59,7 @@ start_count n groups table identifier p k =
     every_outcome (λ t. count_of p k t ≡ 0) (start_taken n groups table) no_shelf _ (fresh_count _ _ _ _ p k)
     (λ done. fresh_count n groups table identifier p k)
 
-pub refused_stays : (s : Shelf) (p source amount : ℕ) {house : House} → (event s p source amount).answer ≡ NotCounted house
+pub refused_stays : (s : Shelf) (p source amount : ℕ) {house : House} → (event s p source amount).answer ≡ Err house
     → (event s p source amount).shelf ≡ s
 refused_stays s p source amount {house} told =
     event_refusal s p source amount (subst⁻¹ (λ n. 1 ≤ n) (ap event_number told) (house_some house))
@@ -84,7 +84,7 @@ module _ (s : Shelf) (placed : Placed s) (p k : ℕ) (below : k < 4) where
 
   -- ---- A report
 
-  pub report_adds : (amount : ℕ) {cut : Bool} → (event s p (k + 1) amount).answer ≡ Counted cut
+  pub report_adds : (amount : ℕ) {cut : Bool} → (event s p (k + 1) amount).answer ≡ told_cut cut
       → count_of p k (event s p (k + 1) amount).shelf ≡ min (count_of p k s + amount) 0xFFFFFFFF
   report_adds amount told = (placed_event_effect s placed p (k + 1) amount told).phy.error_added k below refl
 
@@ -92,10 +92,10 @@ module _ (s : Shelf) (placed : Placed s) (p k : ℕ) (below : k < 4) where
   report_keeps q source amount other = go (event s q source amount).answer refl
     where
       go : (answer : EventAnswer) → (event s q source amount).answer ≡ answer → Keeps (event s q source amount).shelf
-      go (NotCounted house) told = ap (count_of p k) (refused_stays s q source amount told)
-      go (Counted cut) told =
-          let counted = placed_event_effect s placed q source amount told in
-          on_this_phy counted.only (λ here. rw (sym here) (counted.phy.error_kept k below (other here)))
+      go (Err house) told = ap (count_of p k) (refused_stays s q source amount told)
+      go (Ok counted) told =
+          let heard = placed_event_effect s placed q source amount told in
+          on_this_phy heard.only (λ here. rw (sym here) (heard.phy.error_kept k below (other here)))
 
   -- ---- A write that is accepted
 

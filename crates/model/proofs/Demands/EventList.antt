@@ -1,5 +1,6 @@
 -- #101: what a request for the list of stored peak events, 21h, is given: none, the entries from its starting index on, or all; and that
 -- group 1 gets this in its answer. (What other groups get: `Strangers`.) Assumes nothing.
+use Rattle.std.specs.Prelude.{Ok}
 use Prim.Native.Nat.{ℕ, ◌+◌, ◌-◌, ◌≤◌, ◌<◌}
 use native.Mathlib.Omega.{arith}
 use mathlib.Core.Path.{◌≡◌, refl, sym, ap, ◌∙◌}
@@ -9,7 +10,6 @@ use mathlib.Core.List.{List, [], ◌++◌}
 use lib.Dec.{ltb}
 use borrow.Author.Tests.{ltb-true, ltb-false}
 use lib.ListN.{length, get_or, drop}
-use Rattle.model.specs.declared.Answer.TheVariants.{Response}
 use Rattle.model.specs.declared.Request.TheVariants.{ReportPhyEventList}
 use Rattle.model.specs.declared.Shelf.{Shelf}
 use Rattle.model.specs.declared.Store.{Store}
@@ -77,7 +77,7 @@ list_for s frame = report_phy_event_list s.changes s.store (word frame 6)
 
 -- it stands at the front of the buffer, the old rest behind it, and the shelf stays
 pub record ListGiven (s : Shelf) (frame out : List ℕ) : Type 0 where
-  pub told : (served s 1 frame out).answer ≡ Response (length (list_for s frame))
+  pub told : (served s 1 frame out).answer ≡ Ok (length (list_for s frame))
   pub left : lent_after s 1 frame out ≡ list_for s frame ++ drop (length (list_for s frame)) out
   pub stays : (served s 1 frame out).shelf ≡ s
 
@@ -98,7 +98,7 @@ list_given s frame out answered e size byte_3 =
     let accepted : result_code (verdict s 1 frame) ≡ 0x00 = list_passes s frame e (list_right frame e size byte_3) in
     let given : Granted s 1 frame out = granted_result s 1 frame out answered (result_byte s 1 frame out answered ∙ accepted) in
     record {
-      told = given.told ∙ ap (λ request. Response (length (respond s 1 request))) asks;
+      told = given.told ∙ ap (λ request. Ok (length (respond s 1 request))) asks;
       left = given.left ∙ ap (λ request. respond s 1 request ++ drop (length (respond s 1 request)) out) asks;
       stays = given.moves ∙ ap (effect s frame) asks;
     }

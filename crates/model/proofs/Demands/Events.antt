@@ -11,10 +11,10 @@ use borrow.Author.Tests.{eqb-true, eqb-false, eq-eqb, ne_eqb}
 use lib.Dec.{T, eqb}
 use lib.ListN.{length, get_or, length-map, get_or-map}
 use lib.Seq.{ext_get_or, get_or-set_same, get_or-set_other}
-use Rattle.model.specs.declared.EventAnswer.TheVariants.{Counted}
 use Rattle.model.specs.declared.Monitor.{Monitor}
 use Rattle.model.specs.declared.Phy.{Phy}
 use Rattle.model.specs.declared.Shelf.{Shelf}
+use Rattle.model.specs.Answers.{told_cut}
 use Rattle.model.specs.Counting.{originate_times, counted, crossed, add_error, event_on}
 use Rattle.model.specs.Fits.{Placed}
 use Rattle.model.specs.Reply.{error_at, monitor_at}
@@ -32,6 +32,7 @@ use Rattle.model.proofs.Laws.Tests.{is_true, is_false, within_iff, within_true, 
 use Rattle.model.proofs.Plain.Counting.{add_error_length, Crossings, crossings_one, crossed_are}
 use Rattle.model.proofs.Plain.Reports.{event_done}
 use Rattle.model.proofs.Plain.Shelf.{OnlyPhy, same_shelf, put_same, put_only}
+use Rattle.model.proofs.Plain.Store.{event_stores}
 use Rattle.model.proofs.Plain.Sources.{supported_iff, counting_not_peak}
 
 -- ---- what it says
@@ -180,7 +181,7 @@ phy_one {source} {amount} {x} {y} {z} known a b =
 -- ---- the shelf
 
 -- an event report that is taken, of every shelf whose arrays have their places
-pub placed_event_effect : (s : Shelf) → Placed s → (p source amount : ℕ) {cut : Bool} → (event s p source amount).answer ≡ Counted cut
+pub placed_event_effect : (s : Shelf) → Placed s → (p source amount : ℕ) {cut : Bool} → (event s p source amount).answer ≡ told_cut cut
     → ShelfCounted s p source amount (event s p source amount).shelf
 unfolding event event_on event_counted
 placed_event_effect s placed p source amount {cut} told =
@@ -191,11 +192,11 @@ placed_event_effect s placed p source amount {cut} told =
       phy = event_counted source amount (phy_at s p) _ (put_same s p (event_on source amount (phy_at s p)).phy s.changes h) four;
       only = put_only s p _ _;
       changes = refl;
-      store = refl;
+      store = event_stores s.store p source amount (phy_at s p);
     })
 
 -- For every started shelf, after any operations, and every event report that is taken.
-pub event_effect : (s : Shelf) → Started s → (p source amount : ℕ) {cut : Bool} → (event s p source amount).answer ≡ Counted cut
+pub event_effect : (s : Shelf) → Started s → (p source amount : ℕ) {cut : Bool} → (event s p source amount).answer ≡ told_cut cut
     → ShelfCounted s p source amount (event s p source amount).shelf
 event_effect s started = placed_event_effect s (started_placed s started)
 

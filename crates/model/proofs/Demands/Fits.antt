@@ -14,18 +14,18 @@ use Rattle.model.specs.declared.Monitor.{Monitor}
 use Rattle.model.specs.declared.Phy.{Phy}
 use Rattle.model.specs.declared.Store.{Store}
 use Rattle.model.specs.Bytes.{dword}
-use Rattle.model.specs.Counting.{originate, originate_if, originate_times, add_saturating, counted, picked, crossed, add_error, event_on}
+use Rattle.model.specs.Counting.{originate, originate_if, originate_times, add_saturating, counted, marked, stored_ones, crossings, crossed, add_error, event_on}
 use Rattle.model.specs.Counting.{quiet, change_on}
 use Rattle.model.specs.Fits.{BytesFit, MonitorFits, PhyFits, EntryFits, StoreFits, InARow}
 use Rattle.model.specs.Shelf.{phy_with, fresh_monitor, fresh_phy, entry_of, no_entry, fresh_store}
 use Rattle.model.specs.Sources.{peak}
 use Rattle.model.specs.Store.{place, count_on, store, entries_of}
 use Rattle.model.specs.Tests.{within}
-use Rattle.model.specs.Writes.{without_errors, controlled, set_monitor, set_monitors, set_on, clear_monitor, any_peak}
+use Rattle.model.specs.Writes.{without_errors, controlled, set_monitor, set_monitors, set_on, clear_monitor, any_peak, peaks}
 use Rattle.model.specs.Writes.{clear_on, configured}
 use Rattle.model.proofs.Laws.Places.{All, Each, each_all, change_at, map_at, replicate_each}
 use Rattle.model.proofs.Laws.Tests.{cond_by, cond_both}
-use Rattle.model.proofs.Plain.Counting.{originate_adds, originate_range, add_error_length, picked_all}
+use Rattle.model.proofs.Plain.Counting.{originate_adds, originate_range, add_error_length, picked_all, stored_marked}
 use Rattle.model.proofs.Plain.Writes.{set_length, set_at_lem}
 
 -- ---- counts
@@ -119,14 +119,14 @@ FitsOn x y = PhyFits x → PhyFits y
 
 -- what is done to a phy keeps that, and what may be stored of it fits
 abbrev pub EffectFits : Phy → Effect → Type 0
-EffectFits x e = PhyFits x → PhyFits e.phy × MonitorsFit e.monitors
+EffectFits x e = PhyFits x → PhyFits e.phy × All MonitorFits (stored_ones e.stored)
 
 abbrev pub KeepsFit : (Phy → Effect) → Type 0
 KeepsFit f = (x : Phy) → EffectFits x (f x)
 
--- what is stored of a phy as it is afterwards
-as_left : {x : Phy} (y : Phy) → FitsOn x y → PhyFits x → PhyFits y × MonitorsFit y.monitors
-as_left y keeps f = let after : PhyFits y = keeps f in (after, (after.monitors_size, after.monitors))
+-- what is stored of a phy whose monitors fit, when those stand that are marked
+stored_fits : (marks : List Bool) (ms : List Monitor) → MonitorsFit ms → All MonitorFits (stored_ones (marked marks ms))
+stored_fits marks ms f = rw (stored_marked marks ms) (picked_all MonitorFits marks ms (each_all MonitorFits fresh_monitor ms f.1))
 
 -- other numbers in it, from what each keeps
 fits_with : (x : Phy) {enabled : Bool} {errors : List ℕ} {ms : List Monitor} {change0 expander1 expander2 : ℕ}
@@ -150,18 +150,19 @@ fits_with x es fs c0 e1 e2 f =
 
 pub event_keeps : (source amount : ℕ) → amount ≤ 0xFFFFFFFF → KeepsFit (event_on source amount)
 unfolding event_on
-event_keeps source amount h x =
-    as_left _
-    (fits_with x (add_error_fits source amount x.errors)
-    (map_fits (counted source amount) (counted_fits source amount h) x.monitors)
-    (λ f. f)
-    (times_fit (length (crossed source amount x.monitors)) x.expander1)
-    (λ f. f))
+event_keeps source amount h x f =
+    let after : PhyFits (event_on source amount x).phy =
+        fits_with x (add_error_fits source amount x.errors)
+        (map_fits (counted source amount) (counted_fits source amount h) x.monitors)
+        (λ f. f)
+        (times_fit (length (crossed source amount x.monitors)) x.expander1)
+        (λ f. f)
+        f in
+    (after, stored_fits (crossings source amount x.monitors) _ (after.monitors_size, after.monitors))
 
 pub change_keeps : (enabled : Bool) → KeepsFit (change_on enabled)
 unfolding change_on
-change_keeps enabled x =
-    as_left _ (fits_with x (λ f. f) (λ f. f) (originated_fits true x.change0) (λ f. f) (λ f. f))
+change_keeps enabled x f = (fits_with x (λ f. f) (λ f. f) (originated_fits true x.change0) (λ f. f) (λ f. f) f, tt)
 
 without_errors_keeps : (x : Phy) → FitsOn x (without_errors x)
 without_errors_keeps x = fits_with x (λ f. no_errors_fit) (λ f. f) (λ f. f) (λ f. f) (λ f. f)
@@ -179,8 +180,8 @@ controlled_all P operation x none change clear =
 
 pub control_keeps : (operation : ℕ) → KeepsFit (controlled operation)
 control_keeps operation x =
-    controlled_all (EffectFits x) operation x (as_left x (λ f. f)) (λ enabled. change_keeps enabled x)
-    (as_left (without_errors x) (without_errors_keeps x))
+    controlled_all (EffectFits x) operation x (λ f. (f, tt)) (λ enabled. change_keeps enabled x)
+    (λ f. (without_errors_keeps x f, tt))
 
 set_keeps : (frame : List ℕ) → BytesFit frame → (d : ℕ) (x : Phy) → FitsOn x (set_on frame d x)
 unfolding set_on
@@ -193,14 +194,14 @@ clear_keeps x f = (
   fits_with x (λ f. f) (map_fits clear_monitor clear_fits x.monitors) (λ f. f) (λ f. f)
       (originated_fits (any_peak x.monitors) x.expander2)
       f,
-  (f.monitors_size, f.monitors),
+  stored_fits (peaks x.monitors) x.monitors (f.monitors_size, f.monitors),
 )
 
 pub configure_keeps : (frame : List ℕ) → BytesFit frame → (d : ℕ) (clear : Bool) → KeepsFit (configured frame d clear)
 unfolding configured
 configure_keeps frame fit d clear x =
     let set : FitsOn x (set_on frame d x) = set_keeps frame fit d x in
-    cond_both (EffectFits x) clear _ _ (λ f. clear_keeps (set_on frame d x) (set f)) (as_left (set_on frame d x) set)
+    cond_both (EffectFits x) clear _ _ (λ f. clear_keeps (set_on frame d x) (set f)) (λ f. (set f, tt))
 
 -- ---- the stored peak events
 
@@ -209,10 +210,8 @@ entry_fits p below [] all = tt
 entry_fits p below (m ∷ ms) all = (record { phy = omega arith; monitor = all.0 }, entry_fits p below ms all.1)
 
 -- what an effect stores of a phy that fits
-pub entries_fit : (p : ℕ) → p < 24 → (e : Effect) → MonitorsFit e.monitors → All EntryFits (entries_of p e)
-entries_fit p below e f =
-    entry_fits p below (picked e.stored e.monitors)
-    (picked_all MonitorFits e.stored e.monitors (each_all MonitorFits fresh_monitor e.monitors f.1))
+pub entries_fit : (p : ℕ) → p < 24 → (e : Effect) → All MonitorFits (stored_ones e.stored) → All EntryFits (entries_of p e)
+entries_fit p below e = entry_fits p below (stored_ones e.stored)
 
 count_on_fits : (count : ℕ) → count ≤ 0xFFFFFFFF → count_on count ≤ 0xFFFFFFFF
 count_on_fits count h = cond_by (λ n. n ≤ 0xFFFFFFFF) (ltb count 32) _ _ (λ e. omega (arith, ltb-true count 32 e)) (λ e. omega arith)

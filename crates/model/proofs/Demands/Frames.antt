@@ -1,5 +1,6 @@
 -- Every response, accepted or failed, has 4 bytes and 4 for each dword that byte 3 says, at most 400 in all, and every byte is below 256
 -- where the frame's bytes are and the shelf's numbers fit their widths. Assumes nothing.
+use Rattle.std.specs.Prelude.{Ok, Err}
 use Prim.Native.Nat.{ℕ, ◌+◌, ◌*◌, ◌≤◌, ◌<◌, zero-le}
 use native.Mathlib.Nat.{le_refl}
 use native.Mathlib.Omega.{arith}
@@ -11,25 +12,26 @@ use lib.Dec.{T, ltb, eqb}
 use lib.ListN.{length, take, drop, length-append, get_or-eq_default}
 use lib.Seq.{sets, length-sets}
 use Rattle.model.specs.declared.Entry.{Entry}
-use Rattle.model.specs.declared.FunctionResult.{FunctionResult}
-use Rattle.model.specs.declared.FunctionResult.TheVariants.{Accepted, UnknownSmpFunction, SmpFunctionFailed}
-use Rattle.model.specs.declared.FunctionResult.TheVariants.{InvalidRequestFrameLength, InvalidExpanderChangeCount}
-use Rattle.model.specs.declared.FunctionResult.TheVariants.{PhyDoesNotExist, UnknownPhyOperation, PhyVacant}
-use Rattle.model.specs.declared.FunctionResult.TheVariants.{UnknownPhyEventSource, SmpZoneViolation}
-use Rattle.model.specs.declared.FunctionResult.TheVariants.{NoManagementAccessRights}
+use Rattle.model.specs.declared.Failure.{Failure}
+use Rattle.model.specs.declared.Failure.TheVariants.{UnknownSmpFunction, SmpFunctionFailed}
+use Rattle.model.specs.declared.Failure.TheVariants.{InvalidRequestFrameLength, InvalidExpanderChangeCount}
+use Rattle.model.specs.declared.Failure.TheVariants.{PhyDoesNotExist, UnknownPhyOperation, PhyVacant}
+use Rattle.model.specs.declared.Failure.TheVariants.{UnknownPhyEventSource, SmpZoneViolation}
+use Rattle.model.specs.declared.Failure.TheVariants.{NoManagementAccessRights}
 use Rattle.model.specs.declared.Phy.{Phy}
 use Rattle.model.specs.declared.Request.{Request}
 use Rattle.model.specs.declared.Request.TheVariants.{ReportGeneral, ReportManufacturer, ReportBroadcast}
 use Rattle.model.specs.declared.Request.TheVariants.{ReportPhyErrorLog, ReportPhyEvent, ReportPhyEventList, PhyControl, ConfigurePhyEvent}
 use Rattle.model.specs.declared.Shelf.{Shelf}
 use Rattle.model.specs.declared.Store.{Store}
+use Rattle.model.specs.Answers.{FunctionResult}
 use Rattle.model.specs.Bytes.{byte, one}
 use Rattle.model.specs.Fits.{BytesFit, EntryFits, Fits}
 use Rattle.model.specs.Reply.{failed, response, change_count, report_general, report_manufacturer, report_phy_error_log}
 use Rattle.model.specs.Reply.{monitor_at, report_phy_event, Broadcast, listed, device_listed, phy_listed, seen_listed}
 use Rattle.model.specs.Reply.{descriptors, broadcast_descriptor, broadcasts, report_broadcast, entry_descriptor, report_phy_event_list, respond}
 use Rattle.model.specs.Request.{function_of, known, asked}
-use Rattle.model.specs.Results.{result_code}
+use Rattle.model.specs.Results.{failure_code, result_code}
 use Rattle.model.specs.Server.{Sends, handle}
 use Rattle.model.specs.Shelf.{phy_number, no_phy, phy_at, fresh_monitor}
 use Rattle.model.specs.Store.{returned}
@@ -157,18 +159,21 @@ Small n = n ≤ 0xFF
 fits_by : (bytes : List ℕ) → All Small (take 32 bytes) → All Small (drop 32 bytes) → BytesFit bytes
 fits_by bytes front back = cut_each Small 0x00 32 bytes front (all_each Small 0x00 (drop 32 bytes) zero-le back)
 
+failure_small : (failure : Failure) → Small (failure_code failure)
+failure_small UnknownSmpFunction = omega arith
+failure_small SmpFunctionFailed = omega arith
+failure_small InvalidRequestFrameLength = omega arith
+failure_small InvalidExpanderChangeCount = omega arith
+failure_small PhyDoesNotExist = omega arith
+failure_small UnknownPhyOperation = omega arith
+failure_small PhyVacant = omega arith
+failure_small UnknownPhyEventSource = omega arith
+failure_small SmpZoneViolation = omega arith
+failure_small NoManagementAccessRights = omega arith
+
 result_small : (result : FunctionResult) → Small (result_code result)
-result_small Accepted = zero-le
-result_small UnknownSmpFunction = omega arith
-result_small SmpFunctionFailed = omega arith
-result_small InvalidRequestFrameLength = omega arith
-result_small InvalidExpanderChangeCount = omega arith
-result_small PhyDoesNotExist = omega arith
-result_small UnknownPhyOperation = omega arith
-result_small PhyVacant = omega arith
-result_small UnknownPhyEventSource = omega arith
-result_small SmpZoneViolation = omega arith
-result_small NoManagementAccessRights = omega arith
+result_small (Ok accepted) = zero-le
+result_small (Err failure) = failure_small failure
 
 -- what a response repeats of its request: the type (06h) or the phy (11h and 14h)
 abbrev repeated : Request → ℕ

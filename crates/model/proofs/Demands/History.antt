@@ -1,5 +1,6 @@
 -- **The list of stored peak events is the history** (#101): over any run from a start, the entries are the last 32 of all that the run's
 -- accepted reports and clears stored, in order, and their indexes are their numbers, gone round as the ticket says. Assumes nothing.
+use Rattle.std.specs.Prelude.{Ok, Err}
 use Prim.Native.Nat.{ℕ, zero, suc, ◌+◌, ◌-◌, ◌%◌, ◌≤◌, ◌<◌, min}
 use native.Mathlib.Nat.{eq-or-lt_of_le}
 use native.Mathlib.Omega.{arith}
@@ -12,15 +13,12 @@ use borrow.Author.Tests.{ltb-true, ltb-false, lt-ltb, le-ltb, eqb-true, ne_eqb}
 use lib.ListN.{length, get_or, drop, length-append, length-drop, length-set, get_or-append}
 use lib.Seq.{drop-append-le, drop-drop, get_or-drop, get_or_at, get_or-set_same, get_or-set_other, ext_get_or}
 use Rattle.model.specs.declared.Entry.{Entry}
-use Rattle.model.specs.declared.FunctionResult.{FunctionResult}
 use Rattle.model.specs.declared.House.TheVariants.{SourceGroup, ShortBuffer}
-use Rattle.model.specs.declared.Judged.{Judged}
-use Rattle.model.specs.declared.Judged.TheVariants.{Asked, NoFrame, Fails}
+use Rattle.model.specs.declared.Fault.TheVariants.{NoFrame, Fails}
 use Rattle.model.specs.declared.Request.{Request}
 use Rattle.model.specs.declared.Shelf.{Shelf}
 use Rattle.model.specs.declared.Store.{Store}
-use Rattle.model.specs.declared.Taken.{Taken}
-use Rattle.model.specs.declared.Taken.TheVariants.{Done, NotDone}
+use Rattle.model.specs.Answers.{FunctionResult, Judged, Taken}
 use Rattle.model.specs.Counting.{originate, originate_times}
 use Rattle.model.specs.History.{if_taken, judged_does, request_does, stored_by_doing, stored_by, history, last_ones, index_of}
 use Rattle.model.specs.Reports.{event_taken, event, link_change_taken, link_change, reduced_functionality, ses_notice}
@@ -49,8 +47,8 @@ done_stores s (WritesTo p f) = refl
 
 taken_stores : (taken : Taken) (old new : Shelf) (es : List Entry) → new.store ≡ store_all old.store es
     → (outcome taken old new).shelf.store ≡ store_all old.store (if_taken taken es)
-taken_stores Done old new es e = e
-taken_stores (NotDone house) old new es e = refl
+taken_stores (Ok done) old new es e = e
+taken_stores (Err house) old new es e = refl
 
 -- a request does what it is said to do
 request_done : (s : Shelf) (g : ℕ) (frame : List ℕ) (room : ℕ) → (handle s g frame room).shelf ≡ done s (request_does s g frame room)
@@ -68,9 +66,9 @@ request_done s g frame room = go (ltb 31 g) (ltb room least_buffer) (judge frame
         ≡ done s (given a Reads (given b Reads (judged_does s g frame judged)))
     go true b judged = refl
     go false true judged = refl
-    go false false (NoFrame house) = refl
-    go false false (Fails result) = refl
-    go false false (Asked request) =
+    go false false (Err (NoFrame house)) = refl
+    go false false (Err (Fails result)) = refl
+    go false false (Ok request) =
         asks (accepted (decide s g frame request)) request (decide s g frame request)
 
 pub next_stores : (s : Shelf) (operation : Operation) → (next s operation).store ≡ store_all s.store (stored_by s operation)

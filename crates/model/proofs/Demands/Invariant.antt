@@ -1,6 +1,7 @@
 -- A start gives a shelf whose numbers fit their widths, with 1 to 24 phys, groups up to 31, a legal table, a change count that is not
 -- 0000h, and stored peak events whose indexes run in a row, and every operation keeps that, where what they are given has its sizes and widths. That a shelf's arrays have their places holds
 -- whatever they are given. Assumes nothing.
+use Rattle.std.specs.Prelude.{Ok}
 use Prim.Native.Nat.{ℕ, ◌≤◌, ◌<◌, zero-le}
 use native.Mathlib.Omega.{arith}
 use mathlib.Core.Path.{◌≡◌, refl, subst, ◌∙◌}
@@ -12,7 +13,6 @@ use lib.ListN.{length, get_or}
 use Rattle.model.specs.declared.Effect.{Effect}
 use Rattle.model.specs.declared.Phy.{Phy}
 use Rattle.model.specs.declared.Shelf.{Shelf}
-use Rattle.model.specs.declared.Taken.TheVariants.{Done}
 use Rattle.model.specs.Counting.{originate_if}
 use Rattle.model.specs.Fits.{EntryFits, StoreFits, Fits, Placed, StartFits, OperationFits, AllFit, InARow, Sound}
 use Rattle.model.specs.Reach.{reaches}
@@ -148,7 +148,7 @@ fresh_sound n groups table identifier fit can =
     }
 
 pub start_sound : (n : ℕ) (groups table identifier : List ℕ) → StartFits table identifier
-    → start_taken n groups table ≡ Done → Sound (start n groups table identifier).shelf
+    → start_taken n groups table ≡ Ok tt → Sound (start n groups table identifier).shelf
 unfolding start
 start_sound n groups table identifier fit done =
     rw done (fresh_sound n groups table identifier fit ((start_done n groups table).0 done))

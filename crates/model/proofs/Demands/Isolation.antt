@@ -15,7 +15,7 @@ use mathlib.Core.List.{List}
 use borrow.Author.Tests.{lt-ltb}
 use lib.Dec.{T}
 use Rattle.model.specs.declared.Shelf.{Shelf}
-use Rattle.model.specs.declared.Taken.TheVariants.{Done}
+use Rattle.std.specs.Prelude.{Ok}
 use Rattle.model.specs.CrossedOut.{remains}
 use Rattle.model.specs.Reach.{reaches}
 use Rattle.model.specs.Runs.{Operation, answers}
@@ -46,17 +46,17 @@ fresh_reached n groups table identifier can p there =
     ((row_reaches_lem 0xFFFFFFFF (start_group n groups p)).1 (group, (bit_iff 0xFFFFFFFF (start_group n groups p)).0 (all_ones (start_group n groups p) (omega arith))))
 
 pub started_reached : (n : ℕ) (groups table identifier : List ℕ) (s : Shelf)
-    → start n groups table identifier ≡ record { taken = Done; shelf = s } → (g : ℕ) → OneReachesAll g s
+    → start n groups table identifier ≡ record { taken = Ok tt; shelf = s } → (g : ℕ) → OneReachesAll g s
 unfolding start
 started_reached n groups table identifier s started g one p there =
-    let taken : start_taken n groups table ≡ Done = sym (outcome_taken (start_taken n groups table) no_shelf _) ∙ ap (λ o. o.taken) started in
+    let taken : start_taken n groups table ≡ Ok tt = sym (outcome_taken (start_taken n groups table) no_shelf _) ∙ ap (λ o. o.taken) started in
     let shelf : fresh_shelf n groups table identifier ≡ s = rw taken at (ap (λ o. o.shelf) started) in
     rw (one, ← shelf) (fresh_reached n groups table identifier ((start_done n groups table).0 taken) p (rw (← shelf) at there))
 
 -- For every started shelf, every source group (also one above 31) and every two runs: if what remains is the same, every answer that
 -- the group gets is the same, with the whole lent buffer afterwards.
 pub demand_3 : (n : ℕ) (groups table identifier : List ℕ) (s : Shelf)
-    → start n groups table identifier ≡ record { taken = Done; shelf = s }
+    → start n groups table identifier ≡ record { taken = Ok tt; shelf = s }
     → (g : ℕ) (one other : List Operation) → remains g s one ≡ remains g s other
     → answers g s one ≡ answers g s other
 demand_3 n groups table identifier s started g one other same =

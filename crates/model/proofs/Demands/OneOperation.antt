@@ -11,7 +11,7 @@ use Rattle.model.specs.declared.Request.{Request}
 use Rattle.model.specs.declared.Request.TheVariants.{ReportGeneral, ReportManufacturer, ReportBroadcast}
 use Rattle.model.specs.declared.Request.TheVariants.{ReportPhyErrorLog, ReportPhyEvent, ReportPhyEventList, PhyControl, ConfigurePhyEvent}
 use Rattle.model.specs.declared.Shelf.{Shelf}
-use Rattle.model.specs.declared.Taken.{Taken}
+use Rattle.model.specs.Answers.{Taken}
 use Rattle.model.specs.Counting.{originate, event_on}
 use Rattle.model.specs.Reach.{reaches, reach_set, reach_number, reach_query}
 use Rattle.model.specs.Reply.{device_listed, phy_listed, broadcasts, broadcast_frame, report_general, report_manufacturer}

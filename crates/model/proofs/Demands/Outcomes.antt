@@ -2,6 +2,7 @@
 -- That there is at most one needs no proof: `start`, `served`, `lent_after`, `event`, `link_change`, the two notices and `reach_query` are
 -- functions, with a value for all shelves, numbers and lists. That each of these values is one of those that document 01 names is shown
 -- here, with when it comes. Assumes nothing.
+use Rattle.std.specs.Prelude.{Ok, Err}
 use Prim.Native.Nat.{ℕ, ◌≤◌, ◌<◌}
 use native.Mathlib.Nat.{eq-zero-or-pos}
 use native.Mathlib.Omega.{arith}
@@ -11,15 +12,11 @@ use mathlib.Core.Bool.{Bool, true, false, cond}
 use mathlib.Core.List.{List, [], ◌∷◌, map}
 use borrow.Author.Tests.{ltb-true, ltb-false, eq-eqb, ne_eqb}
 use lib.Dec.{T, ltb, eqb}
-use Rattle.model.specs.declared.EventAnswer.{EventAnswer}
-use Rattle.model.specs.declared.EventAnswer.TheVariants.{Counted, NotCounted}
 use Rattle.model.specs.declared.EventOutcome.{EventOutcome}
 use Rattle.model.specs.declared.House.TheVariants.{SourceGroup}
 use Rattle.model.specs.declared.Outcome.{Outcome}
-use Rattle.model.specs.declared.Reach.TheVariants.{Reaches, NoReach}
 use Rattle.model.specs.declared.Shelf.{Shelf}
-use Rattle.model.specs.declared.Taken.{Taken}
-use Rattle.model.specs.declared.Taken.TheVariants.{Done, NotDone}
+use Rattle.model.specs.Answers.{EventAnswer, Taken, reach_gives, told_cut}
 use Rattle.model.specs.Bytes.{byte}
 use Rattle.model.specs.Counting.{originate, crossed, event_on, change_on}
 use Rattle.model.specs.House.{house_number, taken_number, event_number, answer_number}
@@ -37,6 +34,7 @@ use Rattle.model.proofs.Laws.Checks.{house_some, counted_iff}
 use Rattle.model.proofs.Laws.Drawn.{Draws}
 use Rattle.model.proofs.Laws.Lowest.{Applies, Lowest, Gives}
 use Rattle.model.proofs.Plain.Reach.{reach_answered, reach_refused}
+use Rattle.model.proofs.Plain.Store.{event_stores}
 use Rattle.model.proofs.Plain.Writes.{change_stores}
 
 -- ---- A request is refused, or it fails, or it is accepted.
@@ -102,13 +100,13 @@ one_end s g frame out a b = kind_told s g frame out a ∙ sym (kind_told s g fra
 pub data TakenEnds (refusals : List (ℕ × Type 0)) (old new : Shelf) (o : Outcome) : Type 0 where
   NotTaken : (k : ℕ) → 1 ≤ k → taken_number o.taken ≡ k → Lowest refusals k → o.shelf ≡ old
       → TakenEnds refusals old new o
-  TakenDone : o.taken ≡ Done → ((k : ℕ) → Applies refusals k → ⊥) → o.shelf ≡ new
+  TakenDone : o.taken ≡ Ok tt → ((k : ℕ) → Applies refusals k → ⊥) → o.shelf ≡ new
       → TakenEnds refusals old new o
 
 every_taken : (refusals : List (ℕ × Type 0)) (taken : Taken) (old new : Shelf)
     → Gives refusals (taken_number (outcome taken old new).taken) → TakenEnds refusals old new (outcome taken old new)
-every_taken refusals Done old new gives = TakenDone refl (gives.none.0 refl) refl
-every_taken refusals (NotDone house) old new gives =
+every_taken refusals (Ok done) old new gives = TakenDone refl (gives.none.0 refl) refl
+every_taken refusals (Err house) old new gives =
     let some : 1 ≤ house_number house = house_some house in
     NotTaken (house_number house) some refl ((gives.each (house_number house)).0 (some, refl)) refl
 
@@ -139,7 +137,7 @@ after_report s p source amount =
 pub data EventEnds (s : Shelf) (p source amount : ℕ) : Type 0 where
   NotHeard : (k : ℕ) → 1 ≤ k → event_number (event s p source amount).answer ≡ k → Lowest (event_refusals s p source amount) k
       → (event s p source amount).shelf ≡ s → EventEnds s p source amount
-  IsCounted : (cut : Bool) → (event s p source amount).answer ≡ Counted cut → T cut ↔ CutBy s p source amount
+  IsCounted : (cut : Bool) → (event s p source amount).answer ≡ told_cut cut → T cut ↔ CutBy s p source amount
       → ((k : ℕ) → Applies (event_refusals s p source amount) k → ⊥)
       → (event s p source amount).shelf ≡ after_report s p source amount → EventEnds s p source amount
 
@@ -148,11 +146,12 @@ unfolding event event_on
 every_event s p source amount = go (event s p source amount).answer refl
   where
     go : (answer : EventAnswer) → (event s p source amount).answer ≡ answer → EventEnds s p source amount
-    go (Counted cut) told =
-        let (taken, _) = (counted_iff (event_taken (exists s p) source amount) _ cut).0 told in
-        IsCounted cut told ((event_told_lem s p source amount cut).0 told).1 ((event_gives s p source amount).none.0 (ap event_number told))
-        (rw taken)
-    go (NotCounted house) told =
+    go (Ok counted) told =
+        let (taken, _) = (counted_iff (event_taken (exists s p) source amount) _ counted.cut).0 told in
+        IsCounted counted.cut told ((event_told_lem s p source amount counted.cut).0 told).1 ((event_gives s p source amount).none.0 (ap event_number told))
+        (rw taken (ap (λ k. put_store (put s p (event_on source amount (phy_at s p)).phy s.changes) k)
+        (event_stores s.store p source amount (phy_at s p))))
+    go (Err house) told =
         let some : 1 ≤ house_number house = house_some house in
         let number : event_number (event s p source amount).answer ≡ house_number house = ap event_number told in
         NotHeard (house_number house) some number (((event_gives s p source amount).each (house_number house)).0 (some, number))
@@ -161,13 +160,13 @@ every_event s p source amount = go (event s p source amount).answer refl
 -- ---- A reach query is refused with H4, or answered with both numbers; a device notice is always done.
 
 pub every_query : (s : Shelf) (g : ℕ)
-    → ((31 < g) × (reach_query s g ≡ NoReach SourceGroup))
-    ⊎ ((g ≤ 31) × (reach_query s g ≡ Reaches (reach_set s g) (reach_number s g)))
+    → ((31 < g) × (reach_query s g ≡ Err SourceGroup))
+    ⊎ ((g ≤ 31) × (reach_query s g ≡ reach_gives (reach_set s g) (reach_number s g)))
 every_query s g = go (ltb 31 g) refl
   where
     go : (above : Bool) → ltb 31 g ≡ above
-        → ((31 < g) × (reach_query s g ≡ NoReach SourceGroup))
-        ⊎ ((g ≤ 31) × (reach_query s g ≡ Reaches (reach_set s g) (reach_number s g)))
+        → ((31 < g) × (reach_query s g ≡ Err SourceGroup))
+        ⊎ ((g ≤ 31) × (reach_query s g ≡ reach_gives (reach_set s g) (reach_number s g)))
     go true e = let h = ltb-true 31 g e in inl (h, reach_refused s g h)
     go false e = let h = ltb-false 31 g e in inr (h, reach_answered s g h)
 

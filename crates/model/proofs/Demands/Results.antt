@@ -1,5 +1,6 @@
 -- Demands 1 and 2, the function results: document 01's list, when each failure is there, on the frame's bytes; the first of them in the
 -- document's order decides; and what a failed result leaves. Assumes nothing.
+use Rattle.std.specs.Prelude.{Ok, Err}
 use Prim.Native.Nat.{ℕ, ◌≤◌, ◌<◌}
 use native.Mathlib.Omega.{arith}
 use mathlib.Core.Path.{◌≡◌, refl, sym, ap, ◌∙◌}
@@ -10,8 +11,7 @@ use mathlib.Core.List.{List, [], ◌∷◌, ◌++◌, Memᴰ}
 use borrow.Author.Tests.{eqb-true, eq-eqb, ne_eqb}
 use lib.Dec.{T, leb, eqb}
 use lib.ListN.{length, drop, get_or-append}
-use Rattle.model.specs.declared.Answer.TheVariants.{Response}
-use Rattle.model.specs.declared.FunctionResult.TheVariants.{UnknownSmpFunction, InvalidRequestFrameLength}
+use Rattle.model.specs.declared.Failure.TheVariants.{UnknownSmpFunction, InvalidRequestFrameLength}
 use Rattle.model.specs.declared.Request.{Request}
 use Rattle.model.specs.declared.Shelf.{Shelf}
 use Rattle.model.specs.Bytes.{byte, word}
@@ -108,8 +108,8 @@ verdict_checks s g frame = go (known (function_of frame)) refl
     Agrees : ℕ → Request → Type 0
     Agrees f request =
         result_code
-        (check (known f) UnknownSmpFunction
-        (check (length_right frame) InvalidRequestFrameLength
+        (check (known f) (Err UnknownSmpFunction)
+        (check (length_right frame) (Err InvalidRequestFrameLength)
         (decide s g frame request)))
         ≡ first_failure (checks_for s g frame f)
 
@@ -209,7 +209,7 @@ result_drawn s g frame out answered code =
 
 -- "A failed response is 41h, the function, the result, 00h. The buffer past any response is unchanged", and so is the shelf.
 pub record Failed (s : Shelf) (g : ℕ) (frame out : List ℕ) (code : ℕ) : Type 0 where
-  pub told : (served s g frame out).answer ≡ Response 4
+  pub told : (served s g frame out).answer ≡ Ok 4
   pub left : lent_after s g frame out ≡ 0x41 ∷ function_of frame ∷ code ∷ 0x00 ∷ drop 4 out
   pub stays : (served s g frame out).shelf ≡ s
 
@@ -229,7 +229,7 @@ failed_result s g frame out code answered drawn some =
 
 -- An accepted request has its response at the front of the buffer, and its effect.
 pub record Granted (s : Shelf) (g : ℕ) (frame out : List ℕ) : Type 0 where
-  pub told : (served s g frame out).answer ≡ Response (length (respond s g (asked frame)))
+  pub told : (served s g frame out).answer ≡ Ok (length (respond s g (asked frame)))
   pub left : lent_after s g frame out ≡ respond s g (asked frame) ++ drop (length (respond s g (asked frame))) out
   pub moves : (served s g frame out).shelf ≡ effect s frame (asked frame)
 

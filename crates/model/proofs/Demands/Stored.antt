@@ -11,7 +11,7 @@ use Rattle.model.specs.declared.Effect.{Effect}
 use Rattle.model.specs.declared.Monitor.{Monitor}
 use Rattle.model.specs.declared.Phy.{Phy}
 use Rattle.model.specs.declared.Shelf.{Shelf}
-use Rattle.model.specs.Counting.{originate_if, originate_times, stores_none, picked, crossed, change_on, event_on}
+use Rattle.model.specs.Counting.{originate_if, originate_times, stores_none, picked, stored_ones, crossings, crossed, change_on, event_on}
 use Rattle.model.specs.Runs.{Operation, next, Started}
 use Rattle.model.specs.Shelf.{exists, no_phy, phy_at, put, entry_of}
 use Rattle.model.specs.Store.{store, store_all}
@@ -21,21 +21,21 @@ use Rattle.model.specs.Writes.{without_errors, controlled, set_monitors, set_on,
 use Rattle.model.proofs.Demands.Fits.{controlled_all}
 use Rattle.model.proofs.Demands.Invariant.{started_placed, phy_placed}
 use Rattle.model.proofs.Laws.Steps.{Step, Stays, ChangesPhy, CountsNotice, every_change, next_step}
-use Rattle.model.proofs.Plain.Counting.{none_picked}
+use Rattle.model.proofs.Plain.Counting.{stored_marked}
 use Rattle.model.proofs.Plain.Shelf.{put_same, put_other}
 
 -- of what is done to a phy x
 record Stores (x : Phy) (e : Effect) : Type 0 where
   crossed : List Monitor
   cleared : List Monitor
-  those : picked e.stored e.monitors ≡ crossed ++ cleared
+  those : stored_ones e.stored ≡ crossed ++ cleared
   expander1 : e.phy.expander1 ≡ originate_times (length crossed) x.expander1
   expander2 : e.phy.expander2 ≡ originate_if (ltb 0 (length cleared)) x.expander2
 
 -- nothing is stored, and neither is originated
 none_stores : (x y : Phy) (change : Bool) → y.expander1 ≡ x.expander1 → y.expander2 ≡ x.expander2 → Stores x (stores_none y change)
 none_stores x y change e1 e2 =
-    record { crossed = []; cleared = []; those = none_picked 4 y.monitors; expander1 = e1; expander2 = e2 }
+    record { crossed = []; cleared = []; those = refl; expander1 = e1; expander2 = e2 }
 
 any_peak_stored : (ms : List Monitor) → any_peak ms ≡ ltb 0 (length (picked (peaks ms) ms))
 unfolding any_peak
@@ -56,7 +56,7 @@ event_storing source amount x =
     record {
       crossed = crossed source amount x.monitors;
       cleared = [];
-      those = sym (append-nil (crossed source amount x.monitors));
+      those = stored_marked (crossings source amount x.monitors) _ ∙ sym (append-nil (crossed source amount x.monitors));
       expander1 = refl;
       expander2 = refl;
     }
@@ -77,7 +77,7 @@ configure_storing frame d true x =
     record {
       crossed = [];
       cleared = picked (peaks ms) ms;
-      those = refl;
+      those = stored_marked (peaks ms) ms;
       expander1 = refl;
       expander2 = ap (λ b. originate_if b x.expander2) (any_peak_stored ms);
     }

@@ -1,17 +1,18 @@
 -- The whole way of a request in one row: H4, H5, H6, H10, then the result, then the response with its effect, or the failure with none.
 -- Assumes nothing.
+use Rattle.std.specs.Prelude.{Ok, Err}
 use Prim.Native.Nat.{ℕ}
 use native.Mathlib.Omega.{arith}
 use mathlib.Core.Path.{◌≡◌, refl, subst}
 use mathlib.Core.Bool.{Bool, true, false, cond, false≢true}
 use mathlib.Core.List.{List}
 use lib.Dec.{ltb}
-use Rattle.model.specs.declared.FunctionResult.{FunctionResult}
-use Rattle.model.specs.declared.FunctionResult.TheVariants.{UnknownSmpFunction, InvalidRequestFrameLength}
+use Rattle.model.specs.declared.Failure.TheVariants.{UnknownSmpFunction, InvalidRequestFrameLength}
 use Rattle.model.specs.declared.House.{House}
 use Rattle.model.specs.declared.House.TheVariants.{SourceGroup, ShortBuffer, CutFrame, WrongFrame}
-use Rattle.model.specs.declared.Judged.TheVariants.{Asked, NoFrame, Fails}
+use Rattle.model.specs.declared.Fault.TheVariants.{NoFrame, Fails}
 use Rattle.model.specs.declared.Shelf.{Shelf}
+use Rattle.model.specs.Answers.{FunctionResult}
 use Rattle.model.specs.Reply.{failed, respond}
 use Rattle.model.specs.Request.{cut_frame, wrong_frame, function_of, known, length_right, asked, judge}
 use Rattle.model.specs.Results.{result_code, accepted, decide}
@@ -22,8 +23,8 @@ use Rattle.model.specs.Writes.{effect}
 -- the result of a request, 01h and 03h among them
 unfoldable pub verdict : Shelf → ℕ → List ℕ → FunctionResult
 verdict s g frame =
-    check (known (function_of frame)) UnknownSmpFunction
-    (check (length_right frame) InvalidRequestFrameLength
+    check (known (function_of frame)) (Err UnknownSmpFunction)
+    (check (length_right frame) (Err InvalidRequestFrameLength)
     (decide s g frame (asked frame)))
 
 -- an accepted request: its response and its full effect
@@ -44,16 +45,16 @@ judged s g frame = go (cut_frame frame) (wrong_frame frame) (known (function_of 
   where
     go : (cut wrong known' right : Bool)
         → handle_judged s g frame
-        (given cut (NoFrame CutFrame)
-        (given wrong (NoFrame WrongFrame)
-        (check known' (Fails UnknownSmpFunction)
-        (check right (Fails InvalidRequestFrameLength)
-        (Asked (asked frame))))))
+        (given cut (Err (NoFrame CutFrame))
+        (given wrong (Err (NoFrame WrongFrame))
+        (check known' (Err (Fails UnknownSmpFunction))
+        (check right (Err (Fails InvalidRequestFrameLength))
+        (Ok (asked frame))))))
         ≡ given cut (refuse s CutFrame)
         (given wrong (refuse s WrongFrame)
         (conclude s g frame (asked frame)
-        (check known' UnknownSmpFunction
-        (check right InvalidRequestFrameLength
+        (check known' (Err UnknownSmpFunction)
+        (check right (Err InvalidRequestFrameLength)
         (decide s g frame (asked frame))))))
     go true wrong known' right = refl
     go false true known' right = refl
@@ -139,7 +140,7 @@ unfolding verdict
 accepted_decided s g frame = go (known (function_of frame)) (length_right frame)
   where
     go : (known' right : Bool)
-        → accepted (check known' UnknownSmpFunction (check right InvalidRequestFrameLength (decide s g frame (asked frame)))) ≡ true
+        → accepted (check known' (Err UnknownSmpFunction) (check right (Err InvalidRequestFrameLength) (decide s g frame (asked frame)))) ≡ true
         → (known' ≡ true) × (right ≡ true) × (accepted (decide s g frame (asked frame)) ≡ true)
     go true true e = (refl, refl, e)
     go true false e = absurd (false≢true e)

@@ -11,7 +11,7 @@ use borrow.Author.Tests.{ne_eqb}
 use lib.Dec.{T, leb, ltb}
 use lib.ListN.{length, get_or, replicate, length-set}
 use Rattle.model.specs.declared.Monitor.{Monitor}
-use Rattle.model.specs.Counting.{originate, originate_if, originate_times, add_wrapping, add_saturating, counted, picked, crosses, crossed}
+use Rattle.model.specs.Counting.{originate, originate_if, originate_times, add_wrapping, add_saturating, counted, marked, picked, stored_ones, crosses, crossed}
 use Rattle.model.specs.Counting.{originate_crossings, add_error, error_cut}
 use Rattle.model.specs.Sources.{peak}
 use Rattle.model.specs.Tests.{within}
@@ -100,11 +100,12 @@ picked_all P (mark ∷ marks) (m ∷ ms) all =
     let others : All P (picked marks ms) = picked_all P marks ms all.1 in
     cond_both (All P) mark _ _ (all.0, others) others
 
--- where none is marked there is none
-pub none_picked : (n : ℕ) (ms : List Monitor) → picked (replicate n false) ms ≡ []
-none_picked zero ms = refl
-none_picked (suc n) [] = refl
-none_picked (suc n) (m ∷ ms) = none_picked n ms
+-- and they are what stands there where each marked one stands in its place
+pub stored_marked : (marks : List Bool) (ms : List Monitor) → stored_ones (marked marks ms) ≡ picked marks ms
+stored_marked [] ms = refl
+stored_marked (mark ∷ marks) [] = refl
+stored_marked (true ∷ marks) (m ∷ ms) = ap (λ others. m ∷ others) (stored_marked marks ms)
+stored_marked (false ∷ marks) (m ∷ ms) = stored_marked marks ms
 
 -- ---- ".. originates Expander 1h, once per monitor"
 

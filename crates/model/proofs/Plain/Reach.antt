@@ -1,4 +1,5 @@
 -- Which phys exist and which a source reaches, and what a reach query's two numbers are, in plain logic. Assumes nothing.
+use Rattle.std.specs.Prelude.{Err}
 use Prim.Native.Nat.{ℕ, ◌/◌, ◌%◌, ◌^◌, ◌≤◌, ◌<◌}
 use native.Mathlib.Nat.{zero-div}
 use native.Mathlib.Omega.{arith}
@@ -11,8 +12,8 @@ use lib.Count.{ones}
 use lib.Dec.{T}
 use lib.ListN.{length, get_or-eq_default}
 use Rattle.model.specs.declared.House.TheVariants.{SourceGroup}
-use Rattle.model.specs.declared.Reach.TheVariants.{Reaches, NoReach}
 use Rattle.model.specs.declared.Shelf.{Shelf}
+use Rattle.model.specs.Answers.{reach_gives}
 use Rattle.model.specs.Reach.{reaches, reach_set, reach_number, reach_query}
 use Rattle.model.specs.Shelf.{phy_number, exists, phy_at}
 use Rattle.model.specs.Zone.{bit, row}
@@ -71,10 +72,10 @@ unfolding reach_set reach_number
 reach_ones s g = sym (ones_powers (phy_number s) (reaches s g))
 
 -- a zone group is answered with both, and a group above 31 draws H4
-pub reach_answered : (s : Shelf) (g : ℕ) → g ≤ 31 → reach_query s g ≡ Reaches (reach_set s g) (reach_number s g)
+pub reach_answered : (s : Shelf) (g : ℕ) → g ≤ 31 → reach_query s g ≡ reach_gives (reach_set s g) (reach_number s g)
 unfolding reach_query
 reach_answered s g h = rw (le-ltb 31 g h)
 
-pub reach_refused : (s : Shelf) (g : ℕ) → 31 < g → reach_query s g ≡ NoReach SourceGroup
+pub reach_refused : (s : Shelf) (g : ℕ) → 31 < g → reach_query s g ≡ Err SourceGroup
 unfolding reach_query
 reach_refused s g h = rw (lt-ltb 31 g h)

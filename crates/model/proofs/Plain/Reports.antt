@@ -1,4 +1,5 @@
 -- When a report is accepted, in plain logic. Assumes nothing.
+use Rattle.std.specs.Prelude.{Ok}
 use Prim.Native.Nat.{ℕ, ◌≤◌, ◌<◌}
 use native.Mathlib.Nat.{not-le_of_lt}
 use native.Mathlib.Omega.{arith}
@@ -9,7 +10,6 @@ use mathlib.Core.Bool.{Bool, not, ◌&&◌, ◌||◌}
 use mathlib.Core.List.{List, [], ◌∷◌}
 use lib.Dec.{T, ltb, eqb, T_not}
 use Rattle.model.specs.declared.Shelf.{Shelf}
-use Rattle.model.specs.declared.Taken.TheVariants.{Done}
 use Rattle.model.specs.House.{taken_number}
 use Rattle.model.specs.Reports.{amount_too_large, event_taken, link_change_taken, link_change}
 use Rattle.model.specs.Shelf.{exists}
@@ -76,7 +76,7 @@ pub link_change_number : (there : Bool) → taken_number (link_change_taken ther
 link_change_number there = simp (check_map taken_number)
 
 pub event_done : (s : Shelf) (p source amount : ℕ)
-    → (event_taken (exists s p) source amount ≡ Done)
+    → (event_taken (exists s p) source amount ≡ Ok tt)
     ↔ Reportable s p source amount
 event_done s p source amount =
     Iff.trans (done_iff (event_taken (exists s p) source amount))
@@ -100,7 +100,7 @@ event_done s p source amount =
     )))
 
 -- a link change is accepted exactly if the phy exists
-pub link_change_done : (s : Shelf) (p : ℕ) → ((link_change s p).taken ≡ Done) ↔ T (exists s p)
+pub link_change_done : (s : Shelf) (p : ℕ) → ((link_change s p).taken ≡ Ok tt) ↔ T (exists s p)
 unfolding link_change
 link_change_done s p =
     Iff.trans (done_iff (link_change s p).taken)

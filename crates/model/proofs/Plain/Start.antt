@@ -1,4 +1,5 @@
 -- When a start gives a device, and what that device is, in plain logic. Assumes nothing.
+use Rattle.std.specs.Prelude.{Ok}
 use Prim.Native.Nat.{ℕ, ◌≤◌, ◌<◌}
 use native.Mathlib.Omega.{arith}
 use mathlib.Core.Path.{◌≡◌}
@@ -8,7 +9,6 @@ use mathlib.Core.Bool.{Bool, not}
 use mathlib.Core.List.{List, [], ◌∷◌}
 use lib.Dec.{T}
 use lib.ListN.{length, get_or, get_or-eq_default}
-use Rattle.model.specs.declared.Taken.TheVariants.{Done}
 use Rattle.model.specs.House.{taken_number}
 use Rattle.model.specs.Shelf.{phy_at, no_phy, fresh_phy, start_group, fresh_phys, fresh_shelf, groups_fit, start_taken}
 use Rattle.model.specs.Tests.{within}
@@ -41,7 +41,7 @@ pub start_number : (n : ℕ) (groups table : List ℕ)
 unfolding start_taken
 start_number n groups table = simp (check_map taken_number)
 
-pub start_done : (n : ℕ) (groups table : List ℕ) → (start_taken n groups table ≡ Done) ↔ Startable n groups table
+pub start_done : (n : ℕ) (groups table : List ℕ) → (start_taken n groups table ≡ Ok tt) ↔ Startable n groups table
 start_done n groups table =
     let number = unless_iff (within 1 24 n) (within_iff 1 24 n) in
     let fit = unless_iff (groups_fit n groups) (groups_iff n groups) in

@@ -1,9 +1,9 @@
 -- The list of stored peak events (#101), in plain logic: how many entries there are, and that their indexes run in a row. Assumes nothing.
 use Prim.Native.Nat.{ℕ, zero, suc, ◌+◌, ◌-◌, ◌≤◌, ◌<◌, zero-le}
 use native.Mathlib.Omega.{arith}
-use mathlib.Core.Path.{◌≡◌, refl, sym, ◌∙◌}
+use mathlib.Core.Path.{◌≡◌, refl, sym, ap, ◌∙◌}
 use mathlib.Core.Bool.{Bool, cond}
-use mathlib.Core.List.{List, [], ◌∷◌, ◌++◌}
+use mathlib.Core.List.{List, [], ◌∷◌, ◌++◌, map}
 use borrow.Author.Tests.{ltb-true, ltb-false, leb-true, leb-false, eqb-true, eqb-false}
 use lib.Dec.{leb, ltb, eqb}
 use lib.ListN.{length, get_or, length-append, get_or-append}
@@ -11,13 +11,13 @@ use lib.Seq.{get_or_at}
 use Rattle.model.specs.declared.Entry.{Entry}
 use Rattle.model.specs.declared.Phy.{Phy}
 use Rattle.model.specs.declared.Store.{Store}
-use Rattle.model.specs.Counting.{stores_none}
-use Rattle.model.specs.Shelf.{no_entry}
+use Rattle.model.specs.Counting.{stores_none, counted, crossings, crossed, event_on}
+use Rattle.model.specs.Shelf.{entry_of, no_entry}
 use Rattle.model.specs.Store.{entry_at, store, store_all, entries_of, kept, place_of, entries, previous, up_to}
 use Rattle.model.proofs.Laws.Join.{join_length, join_at}
 use Rattle.model.proofs.Laws.Places.{All}
 use Rattle.model.proofs.Laws.Tests.{cond_by, cond_both}
-use Rattle.model.proofs.Plain.Counting.{none_picked}
+use Rattle.model.proofs.Plain.Counting.{stored_marked}
 
 -- ---- storing, one after another
 
@@ -32,7 +32,15 @@ store_append k (e ∷ es) fs = store_append (store k e) es fs
 
 -- what stores nothing of a phy
 pub stores_none_lem : (k : Store) (p : ℕ) (after : Phy) (change : Bool) → store_all k (entries_of p (stores_none after change)) ≡ k
-stores_none_lem k p after change = rw (none_picked 4 after.monitors)
+stores_none_lem k p after change = refl
+
+-- what an event report stores of a phy: the monitors that crossed
+pub event_stores : (k : Store) (p source amount : ℕ) (x : Phy)
+    → store_all k (entries_of p (event_on source amount x)) ≡ store_all k (map (entry_of p) (crossed source amount x.monitors))
+unfolding event_on
+event_stores k p source amount x =
+    ap (λ ms. store_all k (map (entry_of p) ms))
+    (stored_marked (crossings source amount x.monitors) (map (counted source amount) x.monitors))
 
 -- ---- how many there are: "the last 32"
 

@@ -1,9 +1,8 @@
 -- #104 on shelf W: what an event report on phy 0 is told, and what its error counts are then. All bear the ticket's number.
-use Rattle.std.specs.Prelude.{ℕ, Bool, cond, List, [], ◌∷◌, ◌++◌, replicate}
-use Rattle.model.specs.declared.EventAnswer.{EventAnswer}
-use Rattle.model.specs.declared.EventAnswer.TheVariants.{Counted, NotCounted}
+use Rattle.std.specs.Prelude.{ℕ, Bool, cond, List, [], ◌∷◌, ◌++◌, replicate, Err, Ok}
 use Rattle.model.specs.declared.EventOutcome.{EventOutcome}
 use Rattle.model.specs.declared.Shelf.{Shelf}
+use Rattle.model.specs.Answers.{EventAnswer, told_cut}
 use Rattle.model.specs.Cases.{Case, Look, Numbers, on, sent}
 use Rattle.model.specs.House.{house_number}
 use Rattle.model.specs.Reports.{event}
@@ -18,8 +17,8 @@ abbrev pub flag : Bool → ℕ
 flag b = cond b 1 0
 
 abbrev pub event_numbers : EventAnswer → List ℕ
-event_numbers (Counted cut) = 0 ∷ flag cut ∷ []
-event_numbers (NotCounted house) = house_number house ∷ []
+event_numbers (Ok counted) = 0 ∷ flag counted.cut ∷ []
+event_numbers (Err house) = house_number house ∷ []
 
 -- .. and the four error counts afterwards
 abbrev pub told_and_left : EventOutcome → List ℕ

@@ -1,9 +1,8 @@
 -- What a group gets in a run on shelf W: its own answers in their order, each with the whole lent buffer afterwards, and nothing of what
 -- others get. `proofs/Vectors` has the theorem.
-use Rattle.std.specs.Prelude.{List, [], ◌∷◌, ◌++◌}
-use Rattle.model.specs.declared.Answer.TheVariants.{Response, NoResponse}
+use Rattle.std.specs.Prelude.{List, [], ◌∷◌, ◌++◌, Ok, Err}
 use Rattle.model.specs.declared.House.TheVariants.{SourceGroup, ShortBuffer}
-use Rattle.model.specs.declared.Reach.TheVariants.{Reaches, NoReach}
+use Rattle.model.specs.Answers.{reach_gives}
 use Rattle.model.specs.Hex.{hex}
 use Rattle.model.specs.Runs.{Operation, Ask, Event, LinkChange, ReducedFunctionality, Ses, QueryReach, Told, Answered}
 use Rattle.model.specs.Runs.{Shown}
@@ -30,14 +29,14 @@ mixed =
 -- group 8: 06h's list of 16 bytes, the reach of 8, H5, 16h of phy 2, and two link resets, of which the first moves the change count
 unfoldable pub to8 : List Told
 to8 =
-    Answered (Response 16) (hex "41 06 00 03 00 02 00 01 00 00 00 00 00 01 00 00" ++ old 1012)
-    ∷ Shown (Reaches 0x0000000B 3)
-    ∷ Answered (NoResponse ShortBuffer) (old 3)
-    ∷ Answered (Response 4) (hex "41 14 16 00" ++ old 1026)
-    ∷ Answered (Response 4) (hex "41 91 00 00" ++ old 1024)
-    ∷ Answered (Response 4) (hex "41 91 04 00" ++ old 1024)
+    Answered (Ok 16) (hex "41 06 00 03 00 02 00 01 00 00 00 00 00 01 00 00" ++ old 1012)
+    ∷ Shown (reach_gives 0x0000000B 3)
+    ∷ Answered (Err ShortBuffer) (old 3)
+    ∷ Answered (Ok 4) (hex "41 14 16 00" ++ old 1026)
+    ∷ Answered (Ok 4) (hex "41 91 00 00" ++ old 1024)
+    ∷ Answered (Ok 4) (hex "41 91 04 00" ++ old 1024)
     ∷ []
 
 -- group 32, which is no zone group: H4 and H4
 unfoldable pub to32 : List Told
-to32 = Answered (NoResponse SourceGroup) (old 1028) ∷ Shown (NoReach SourceGroup) ∷ []
+to32 = Answered (Err SourceGroup) (old 1028) ∷ Shown (Err SourceGroup) ∷ []

@@ -1,9 +1,8 @@
 -- The frames, the looks and the shelves that the vectors are made of.
-use Rattle.std.specs.Prelude.{ℕ, true, cond, List, [], ◌∷◌, ◌++◌, replicate}
-use Rattle.model.specs.declared.Answer.{Answer}
-use Rattle.model.specs.declared.Answer.TheVariants.{Response, NoResponse}
+use Rattle.std.specs.Prelude.{ℕ, true, cond, List, [], ◌∷◌, ◌++◌, replicate, Ok, Err}
 use Rattle.model.specs.declared.Monitor.{Monitor}
 use Rattle.model.specs.declared.Shelf.{Shelf}
+use Rattle.model.specs.Answers.{Answer}
 use Rattle.model.specs.Bytes.{zeros}
 use Rattle.model.specs.Cases.{sent}
 use Rattle.model.specs.House.{house_number}
@@ -67,8 +66,8 @@ errors0 s = error_at (phy_at s 0) 0 ∷ error_at (phy_at s 0) 1 ∷ error_at (ph
 
 -- what the caller of a request is told: 0 and the length of the response, or the number of the house refusal
 abbrev pub answer_numbers : Answer → List ℕ
-answer_numbers (Response size) = 0 ∷ size ∷ []
-answer_numbers (NoResponse house) = house_number house ∷ []
+answer_numbers (Ok size) = 0 ∷ size ∷ []
+answer_numbers (Err house) = house_number house ∷ []
 
 -- ---- Shelves
 

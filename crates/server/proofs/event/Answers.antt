@@ -1,11 +1,10 @@
 -- `server::event` meets its contract: where it is done its effect is carried out, with what it stores, and where not the words stay.
 -- Assumes nothing.
+use Rattle.std.specs.Prelude.{Ok}
 use Rattle.std.proofs.Common.{◌≡◌, ◌<◌, ◌≤◌, ◌∙◌, ℕ, Bool, false, sym, ap, arith}
-use Rattle.model.specs.declared.EventAnswer.TheVariants.{Counted}
 use Rattle.model.specs.declared.Phy.{Phy}
 use Rattle.model.specs.declared.Shelf.{Shelf}
-use Rattle.model.specs.declared.Taken.{Taken}
-use Rattle.model.specs.declared.Taken.TheVariants.{Done}
+use Rattle.model.specs.Answers.{Taken, told_cut}
 use Rattle.model.specs.Counting.{error_cut, event_on}
 use Rattle.model.specs.Reports.{event_taken, event_answer, event}
 use Rattle.model.specs.Shelf.{exists}
@@ -24,11 +23,11 @@ told_is s p source amount there taken told = sym (rw there at taken) ∙ told
 
 -- the cut that is told is the definition's, of this shelf
 cut_is : (source amount : ℕ) {x y : Phy} {cut : Bool} → cut ≡ error_cut source amount x.errors → x ≡ y
-    → Counted cut ≡ Counted (error_cut source amount y.errors)
-cut_is source amount cut read = ap Counted (cut ∙ ap (λ x. error_cut source amount x.errors) read)
+    → told_cut cut ≡ told_cut (error_cut source amount y.errors)
+cut_is source amount cut read = ap told_cut (cut ∙ ap (λ x. error_cut source amount x.errors) read)
 
 -- a report that is done names a phy that exists, so its number fits a byte
-phy_fits : (s : Shelf) (p source amount : ℕ) → event_taken (exists s p) source amount ≡ Done → p < 24
+phy_fits : (s : Shelf) (p source amount : ℕ) → event_taken (exists s p) source amount ≡ Ok tt → p < 24
 phy_fits s p source amount done = ((exists_iff s p).0 ((event_done s p source amount).0 done).phy_exists).1
 
 pub returns-in_default-clause-told : goal.returns-in_default-clause-told
@@ -65,7 +64,7 @@ unfolding event
 returns-then-stored-clause-kept c =
     let a = c.args in
     let s = shelf_of a.words.now in
-    let done : event_taken (exists s a.phy) a.source a.amount ≡ Done =
+    let done : event_taken (exists s a.phy) a.source a.amount ≡ Ok tt =
     told_is s a.phy a.source a.amount c.there.ensures c.event_taken-taken.ensures c.in-Done.is in
     let below : a.phy < 24 = phy_fits s a.phy a.source a.amount done in
     let small : a.phy ≤ 0xFF = omega arith in

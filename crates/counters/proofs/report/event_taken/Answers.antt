@@ -1,7 +1,7 @@
 -- `counters::report::event_taken` meets its contract: the tests in their order are those of the definition. Assumes nothing.
+use Rattle.std.specs.Prelude.{Ok, Err}
 use Rattle.std.proofs.Common.{◌≡◌}
 use Rattle.model.specs.declared.House.TheVariants.{Amount}
-use Rattle.model.specs.declared.Taken.TheVariants.{Done, NotDone}
 use Rattle.model.specs.Reports.{event_taken}
 use Rattle.model.specs.Tests.{given}
 use Rattle.counters.proofs.report.event_taken.Goals as goal
@@ -19,7 +19,7 @@ returns-then-source-supported c =
 -- past the first two tests the third is left
 passed : (c : After-amount_too_large)
     → let a = c.args in
-    event_taken a.there a.source a.amount ≡ given c.amount_too_large.result (NotDone Amount) Done
+    event_taken a.there a.source a.amount ≡ given c.amount_too_large.result (Err Amount) (Ok tt)
 unfolding event_taken
 passed c =
     rw (

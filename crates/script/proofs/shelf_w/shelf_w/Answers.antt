@@ -1,7 +1,7 @@
 -- `script::shelf_w::shelf_w` meets its contract: its groups, table and identifier are those of the definition, and the start is
 -- taken. Assumes nothing.
+use Rattle.std.specs.Prelude.{Ok}
 use Rattle.std.proofs.Common.{◌≡◌, ℕ, List, refl, ◌∙◌}
-use Rattle.model.specs.declared.Taken.TheVariants.{Done}
 use Rattle.model.specs.Shelf.{start}
 use Rattle.model.specs.ShelfW.{groups_w, table_w, identifier_w, shelf_w}
 use Rattle.model.proofs.Computes.{computes}
@@ -10,7 +10,7 @@ use Rattle.words.proofs.Steps.{done_words}
 use Rattle.script.proofs.shelf_w.shelf_w.Goals as goal
 
 -- none of H1, H2 and H3 applies
-done_w : (start 4 groups_w table_w identifier_w).taken ≡ Done
+done_w : (start 4 groups_w table_w identifier_w).taken ≡ Ok tt
 unfolding computes
 done_w = refl
 
