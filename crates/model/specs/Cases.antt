@@ -3,7 +3,7 @@
 use Rattle.std.specs.Prelude.{ℕ, List, [], ◌∷◌, ◌++◌, set, Err, Ok}
 use Rattle.model.specs.declared.Phy.{Phy}
 use Rattle.model.specs.declared.Shelf.{Shelf}
-use Rattle.model.specs.Answers.{Reach, reach_gives}
+use Rattle.model.specs.Answers.{Reach}
 use Rattle.model.specs.Bytes.{zeros}
 use Rattle.model.specs.Hex.{hex}
 use Rattle.model.specs.House.{house_number}

@@ -2,7 +2,7 @@
 -- What each is given for stands where it is given: H1 to H3 in `Shelf`, H4 in `Reach` and `Server`, H5 in `Server`,
 -- H6 in `Request`, H7 to H9 in `Reports`, and H10, which #103 adds, in `Request`. "The lowest number that applies is given": there
 -- they stand in rising order.
-use Rattle.model.specs.Answers.{Answer, EventAnswer, Reach, Taken, reach_gives, told_cut}
+use Rattle.model.specs.Answers.{Answer, EventAnswer, Reach, Taken}
 use Rattle.std.specs.Prelude.{ℕ, Ok, Err}
 use Rattle.model.specs.declared.House.{House}
 use Rattle.model.specs.declared.House.TheVariants.{PhyNumber, PhyGroup, IllegalTable, SourceGroup, ShortBuffer}

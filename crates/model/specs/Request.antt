@@ -1,7 +1,7 @@
 -- "judging one request frame alone (function and H6, 01h, 03h or nothing wrong)". By #103 "H6 keeps the first meaning" of its two, and
 -- the judge tells H10 "as well". "Judging yields the read request or a refusal; the server takes its requests from there only." "The link
 -- layer strips and checks the CRC. All frames here are without it".
-use Rattle.std.specs.Prelude.{ℕ, zero, suc, ◌+◌, ◌*◌, Bool, not, cond, ◌&&◌, ◌||◌, List, [], ◌∷◌, ltb, eqb, length, Ok, Err}
+use Rattle.std.specs.Prelude.{ℕ, zero, suc, ◌+◌, ◌*◌, Bool, not, cond, ◌&&◌, ◌||◌, List, [], ◌∷◌, ltb, eqb, length, Ok, Err, Option, Some, None}
 use Rattle.model.specs.declared.Failure.TheVariants.{UnknownSmpFunction, InvalidRequestFrameLength}
 use Rattle.model.specs.declared.House.TheVariants.{CutFrame, WrongFrame}
 use Rattle.model.specs.declared.Fault.TheVariants.{NoFrame, Fails}
@@ -100,9 +100,9 @@ unfoldable pub allowed : ℕ → Bool
 allowed source = eqb source 0x00 || supported source
 
 -- "The first failing descriptor settles the answer, and the rest are not judged": of the n descriptors from i on,
--- the place of the first whose source is not allowed, or the place past the last where there is none.
-unfoldable pub first_unsupported : List ℕ → ℕ → ℕ → ℕ
-first_unsupported frame zero i = i
+-- the place of the first whose source is not allowed, if there is one.
+unfoldable pub first_unsupported : List ℕ → ℕ → ℕ → Option ℕ
+first_unsupported frame zero i = None
 first_unsupported frame (suc n) i =
-    let rest : ℕ = first_unsupported frame n (suc i) in
-    cond (allowed (descriptor_source frame i)) rest i
+    let rest : Option ℕ = first_unsupported frame n (suc i) in
+    cond (allowed (descriptor_source frame i)) rest (Some i)

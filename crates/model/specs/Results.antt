@@ -1,5 +1,5 @@
 -- "Function results: a frame is written". "In this order, first failure decides".
-use Rattle.std.specs.Prelude.{ℕ, Bool, List, [], ◌∷◌, leb, eqb, Ok, Err}
+use Rattle.std.specs.Prelude.{ℕ, Bool, List, [], ◌∷◌, leb, eqb, Ok, Err, is_none}
 use Rattle.model.specs.declared.Failure.{Failure}
 use Rattle.model.specs.declared.Failure.TheVariants.{UnknownSmpFunction, SmpFunctionFailed}
 use Rattle.model.specs.declared.Failure.TheVariants.{InvalidRequestFrameLength}
@@ -82,7 +82,7 @@ check_kind kind = check (leb kind 0x0F) (Err SmpFunctionFailed) (Ok tt)
 abbrev pub check_descriptors : List ℕ → ℕ → FunctionResult
 check_descriptors frame d =
     check (leb d 4) (Err SmpFunctionFailed)
-    (check (eqb (first_unsupported frame d 0) d) (Err UnknownPhyEventSource)
+    (check (is_none (first_unsupported frame d 0)) (Err UnknownPhyEventSource)
     (Ok tt))
 
 -- #101: "The index tells about phys out of reach, so only source group 1 may ask". "result 21h NO MANAGEMENT ACCESS RIGHTS for other

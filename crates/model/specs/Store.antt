@@ -3,7 +3,7 @@
 --
 -- How entries are kept, and how one is stored; then what readers see of that, which is two definitions, `entries` and `indexes`; then what
 -- a request for the list is given.
-use Rattle.std.specs.Prelude.{ℕ, zero, suc, ◌+◌, ◌-◌, ◌%◌, min, Bool, cond, List, [], ◌∷◌, ◌++◌, map, ltb, eqb, get_or, set}
+use Rattle.std.specs.Prelude.{ℕ, zero, suc, ◌+◌, ◌-◌, ◌%◌, min, cond, List, [], ◌∷◌, ◌++◌, map, ltb, eqb, get_or, set}
 use Rattle.model.specs.declared.Effect.{Effect}
 use Rattle.model.specs.declared.Entry.{Entry}
 use Rattle.model.specs.declared.Shelf.{Shelf}

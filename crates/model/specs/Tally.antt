@@ -3,7 +3,7 @@
 -- shows that he knows what it stands at.
 use Rattle.std.specs.Prelude.{ℕ, ◌+◌, Bool, false, cond, ◌&&◌, ◌||◌, List, [], ◌∷◌, eqb, Err, Ok}
 use Rattle.model.specs.declared.Shelf.{Shelf}
-use Rattle.model.specs.Answers.{EventAnswer, told_cut}
+use Rattle.model.specs.Answers.{EventAnswer}
 use Rattle.model.specs.Bytes.{byte}
 use Rattle.model.specs.House.{answer_number}
 use Rattle.model.specs.Reports.{event}

@@ -20,7 +20,7 @@ use Rattle.model.specs.Runs.{Operation, Ask, Event, LinkChange, ReducedFunctiona
 use Rattle.model.specs.Server.{served, lent_after}
 use Rattle.model.specs.Shelf.{start}
 use Rattle.model.specs.Tally.{Tally, no_tally, heard, is_accepted, sets_errors_to0, tallied, tally_from, tally}
-use Rattle.model.proofs.Demands.Cut.{CutBy, event_told_lem}
+use Rattle.model.proofs.Demands.Cut.{event_told_lem}
 use Rattle.model.proofs.Demands.ErrorSteps.{count_of, start_count, refused_stays, link_change_keeps, report_adds, report_keeps}
 use Rattle.model.proofs.Demands.ErrorSteps.{Clears, request_clears, request_keeps}
 use Rattle.model.proofs.Demands.Invariant.{next_placed, start_placed}

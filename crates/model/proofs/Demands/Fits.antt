@@ -152,12 +152,12 @@ pub event_keeps : (source amount : ℕ) → amount ≤ 0xFFFFFFFF → KeepsFit (
 unfolding event_on
 event_keeps source amount h x f =
     let after : PhyFits (event_on source amount x).phy =
-        fits_with x (add_error_fits source amount x.errors)
-        (map_fits (counted source amount) (counted_fits source amount h) x.monitors)
-        (λ f. f)
-        (times_fit (length (crossed source amount x.monitors)) x.expander1)
-        (λ f. f)
-        f in
+    fits_with x (add_error_fits source amount x.errors)
+    (map_fits (counted source amount) (counted_fits source amount h) x.monitors)
+    (λ f. f)
+    (times_fit (length (crossed source amount x.monitors)) x.expander1)
+    (λ f. f)
+    f in
     (after, stored_fits (crossings source amount x.monitors) _ (after.monitors_size, after.monitors))
 
 pub change_keeps : (enabled : Bool) → KeepsFit (change_on enabled)

@@ -1,6 +1,6 @@
 -- Demands 1 and 2, the function results: document 01's list, when each failure is there, on the frame's bytes; the first of them in the
 -- document's order decides; and what a failed result leaves. Assumes nothing.
-use Rattle.std.specs.Prelude.{Ok, Err}
+use Rattle.std.specs.Prelude.{Ok, Err, is_none}
 use Prim.Native.Nat.{ℕ, ◌≤◌, ◌<◌}
 use native.Mathlib.Omega.{arith}
 use mathlib.Core.Path.{◌≡◌, refl, sym, ap, ◌∙◌}
@@ -92,7 +92,7 @@ checks_for s g frame f =
     ∷ (0x13, only_for (0x91 ∷ []) f (known_operation (byte frame 10)))
     ∷ (0x02, only_for (0x06 ∷ []) f (leb (byte frame 2) 0x0F))
     ∷ (0x02, only_for (0x93 ∷ []) f (leb (byte frame 11) 4))
-    ∷ (0x17, only_for (0x93 ∷ []) f (eqb (first_unsupported frame (byte frame 11) 0) (byte frame 11)))
+    ∷ (0x17, only_for (0x93 ∷ []) f (is_none (first_unsupported frame (byte frame 11) 0)))
     ∷ []
 
 abbrev pub checks : Shelf → ℕ → List ℕ → List (ℕ × Bool)
@@ -135,14 +135,13 @@ only_for_iff functions frame test f =
     fails_under_iff (one_of functions (function_of frame)) test (one_of_iff functions (function_of frame)) f
 
 pub sources_iff : (frame : List ℕ)
-    → T (eqb (first_unsupported frame (byte frame 11) 0) (byte frame 11))
+    → T (is_none (first_unsupported frame (byte frame 11) 0))
     ↔ SourcesAllowed frame
 sources_iff frame =
-    Iff.trans (eqb_iff (first_unsupported frame (byte frame 11) 0) (byte frame 11))
-    (Iff.trans (none_unsupported frame (byte frame 11)) (
+    Iff.trans (none_unsupported frame (byte frame 11)) (
       λ all i h. (allowed_iff (descriptor_source frame i)).0 (all i h),
       λ all i h. (allowed_iff (descriptor_source frame i)).1 (all i h),
-    ))
+    )
 
 checks_tell : (s : Shelf) (g : ℕ) (frame : List ℕ) → Tell (checks s g frame) (failures s g frame)
 checks_tell s g frame =
@@ -156,7 +155,7 @@ checks_tell s g frame =
     (tell (only_for_iff (0x91 ∷ []) frame (known_operation (byte frame 10)) (known_operation_lem (byte frame 10)))
     (tell (only_for_iff (0x06 ∷ []) frame (leb (byte frame 2) 0x0F) (leb_iff (byte frame 2) 0x0F))
     (tell (only_for_iff (0x93 ∷ []) frame (leb (byte frame 11) 4) (leb_iff (byte frame 11) 4))
-    (tell (only_for_iff (0x93 ∷ []) frame (eqb (first_unsupported frame (byte frame 11) 0) (byte frame 11)) (sources_iff frame))
+    (tell (only_for_iff (0x93 ∷ []) frame (is_none (first_unsupported frame (byte frame 11) 0)) (sources_iff frame))
     nothing))))))))))
 
 -- The result of a request is the code of the first failure that is there, and 00h exactly if none is.

@@ -1,5 +1,5 @@
 -- Originating, the two additions and when the second is cut, the crossing of a threshold and which monitors cross theirs, in plain logic. Assumes nothing.
-use Prim.Native.Nat.{ℕ, zero, suc, ◌+◌, ◌-◌, ◌^◌, ◌≤◌, ◌<◌, min}
+use Prim.Native.Nat.{ℕ, ◌+◌, ◌-◌, ◌^◌, ◌≤◌, ◌<◌, min}
 use native.Mathlib.Nat.{mod-eq_of_lt, eq-or-lt_of_le}
 use native.Mathlib.Omega.{arith}
 use mathlib.Core.Path.{◌≡◌, refl, ap, ◌∙◌}
@@ -9,7 +9,7 @@ use mathlib.Core.Bool.{Bool, true, false, cond}
 use mathlib.Core.List.{List, [], ◌∷◌, map}
 use borrow.Author.Tests.{ne_eqb}
 use lib.Dec.{T, leb, ltb}
-use lib.ListN.{length, get_or, replicate, length-set}
+use lib.ListN.{length, get_or, length-set}
 use Rattle.model.specs.declared.Monitor.{Monitor}
 use Rattle.model.specs.Counting.{originate, originate_if, originate_times, add_wrapping, add_saturating, counted, marked, picked, stored_ones, crosses, crossed}
 use Rattle.model.specs.Counting.{originate_crossings, add_error, error_cut}

@@ -1,14 +1,15 @@
 -- When a frame is cut, wrong, of a known function and of a right length, what is asked, by the function, and which descriptor is the first
 -- unsupported one, in plain logic. Assumes nothing.
+use Rattle.std.specs.Prelude.{Option, Some, None, is_none}
 use Prim.Native.Nat.{ℕ, zero, suc, ◌+◌, ◌*◌, ◌≤◌, ◌<◌, zero-le}
 use native.Mathlib.Nat.{eq-or-lt_of_le, not-le_of_lt}
 use native.Mathlib.Omega.{arith}
 use mathlib.Core.Path.{◌≡◌, subst}
 use mathlib.Core.Logic.Iff
 use mathlib.Core.Logic.{◌↔◌, ◌⊎◌, ⊎_elim}
-use mathlib.Core.Bool.{Bool, not, ◌&&◌, ◌||◌, or_assoc, or-false}
+use mathlib.Core.Bool.{Bool, ◌&&◌, ◌||◌, or_assoc, or-false}
 use mathlib.Core.List.{List, [], ◌∷◌, Memᴰ}
-use lib.Dec.{T, ltb, eqb}
+use lib.Dec.{T, eqb}
 use lib.ListN.{length}
 use Rattle.model.specs.declared.Request.{Request}
 use Rattle.model.specs.declared.Request.TheVariants.{ReportGeneral, ReportManufacturer, ReportBroadcast}
@@ -162,47 +163,58 @@ pub allowed_iff : (source : ℕ) → T (allowed source) ↔ ((source ≡ 0x00) �
 unfolding allowed
 allowed_iff source = either_iff (eqb source 0x00) (supported source) (eqb_iff source 0x00) Iff.rfl
 
--- Of the n descriptors from i on, r is the first that is not allowed, or the place past the last: those before it are
--- allowed, and it is not.
-pub record First (frame : List ℕ) (n i r : ℕ) : Type 0 where
+-- Of the n descriptors from i on, r is the first that is not allowed: those before it are allowed, and it is not.
+pub record FirstAt (frame : List ℕ) (n i r : ℕ) : Type 0 where
   pub from : i ≤ r
-  pub to : r ≤ i + n
+  pub to : r < i + n
   pub before : (k : ℕ) → i ≤ k → k < r → T (allowed (descriptor_source frame k))
-  pub at : r < i + n → T (allowed (descriptor_source frame r)) → ⊥
+  pub at : T (allowed (descriptor_source frame r)) → ⊥
 
--- it is the one at i
-first_here : (frame : List ℕ) (n i : ℕ) → (i < i + n → T (allowed (descriptor_source frame i)) → ⊥) → First frame n i i
-first_here frame n i at =
-    record { from = omega arith; to = omega arith; before = λ k low high. absurd (not-le_of_lt high low); at = at }
+-- .. if there is one; and where there is none, all are allowed
+abbrev pub First : List ℕ → ℕ → ℕ → Option ℕ → Type 0
+First frame n i (Some r) = FirstAt frame n i r
+First frame n i None = (k : ℕ) → i ≤ k → k < i + n → T (allowed (descriptor_source frame k))
 
-pub first_unsupported_lem : (frame : List ℕ) (n i : ℕ) → First frame n i (first_unsupported frame n i)
-unfolding first_unsupported
-first_unsupported_lem frame zero i = first_here frame zero i (λ h. absurd (omega arith))
-first_unsupported_lem frame (suc n) i =
-    let rest : First frame n (suc i) (first_unsupported frame n (suc i)) = first_unsupported_lem frame n (suc i) in
-    cond_by (First frame (suc n) i) (allowed (descriptor_source frame i)) _ _
-    (λ e.
+-- the first of those behind an allowed one is the first of all
+allowed_before : (frame : List ℕ) (n i : ℕ) (found : Option ℕ) → T (allowed (descriptor_source frame i)) → First frame n (suc i) found
+    → First frame (suc n) i found
+allowed_before frame n i (Some r) here rest =
     record {
       from = omega arith;
       to = omega arith;
       before = λ k low high.
-          ⊎_elim (λ i≡k. subst (λ (j : ℕ). T (allowed (descriptor_source frame j))) i≡k (rw e tt))
+          ⊎_elim (λ i≡k. subst (λ (j : ℕ). T (allowed (descriptor_source frame j))) i≡k here)
           (λ i<k. rest.before k i<k high)
           (eq-or-lt_of_le low);
-      at = λ h. rest.at (omega arith);
+      at = rest.at;
+    }
+allowed_before frame n i None here rest =
+    λ k low high.
+    ⊎_elim (λ i≡k. subst (λ (j : ℕ). T (allowed (descriptor_source frame j))) i≡k here)
+    (λ i<k. rest k i<k (omega arith))
+    (eq-or-lt_of_le low)
+
+pub first_unsupported_lem : (frame : List ℕ) (n i : ℕ) → First frame n i (first_unsupported frame n i)
+unfolding first_unsupported
+first_unsupported_lem frame zero i = λ k low high. absurd (omega arith)
+first_unsupported_lem frame (suc n) i =
+    let rest : First frame n (suc i) (first_unsupported frame n (suc i)) = first_unsupported_lem frame n (suc i) in
+    cond_by (First frame (suc n) i) (allowed (descriptor_source frame i)) _ _
+    (λ e. allowed_before frame n i (first_unsupported frame n (suc i)) (rw e tt) rest)
+    (λ e.
+    record {
+      from = omega arith;
+      to = omega arith;
+      before = λ k low high. absurd (not-le_of_lt high low);
+      at = λ t. rw e at t;
     })
-    (λ e. first_here frame (suc n) i (λ h t. rw e at t))
 
 -- so there is none exactly if every descriptor is allowed
 pub none_unsupported : (frame : List ℕ) (d : ℕ)
-    → (first_unsupported frame d 0 ≡ d)
+    → T (is_none (first_unsupported frame d 0))
     ↔ ((k : ℕ) → k < d → T (allowed (descriptor_source frame k)))
-none_unsupported frame d =
-    let first : First frame d 0 (first_unsupported frame d 0) = first_unsupported_lem frame d 0 in (
-      λ e k h. first.before k zero-le (rw e h),
-      λ all.
-          let fits : first_unsupported frame d 0 ≤ d = omega arith in
-          ⊎_elim (λ e. e)
-          (λ l. absurd (first.at (omega arith) (all (first_unsupported frame d 0) l)))
-          (eq-or-lt_of_le fits),
-    )
+none_unsupported frame d = go (first_unsupported frame d 0) (first_unsupported_lem frame d 0)
+  where
+    go : (found : Option ℕ) → First frame d 0 found → T (is_none found) ↔ ((k : ℕ) → k < d → T (allowed (descriptor_source frame k)))
+    go None all = (λ t k h. all k zero-le (omega arith), λ every. tt)
+    go (Some r) first = (λ t. absurd t, λ every. absurd (first.at (every r (omega (arith, first.to)))))

@@ -2,7 +2,7 @@
 use Rattle.std.specs.Prelude.{ℕ, Bool, cond, List, [], ◌∷◌, ◌++◌, replicate, Err, Ok}
 use Rattle.model.specs.declared.EventOutcome.{EventOutcome}
 use Rattle.model.specs.declared.Shelf.{Shelf}
-use Rattle.model.specs.Answers.{EventAnswer, told_cut}
+use Rattle.model.specs.Answers.{EventAnswer}
 use Rattle.model.specs.Cases.{Case, Look, Numbers, on, sent}
 use Rattle.model.specs.House.{house_number}
 use Rattle.model.specs.Reports.{event}
