@@ -6,7 +6,7 @@ use Rattle.model.specs.declared.Fault.TheVariants.{NoFrame, Fails}
 use Rattle.model.specs.Answers.{Judged}
 use Rattle.model.specs.House.{house_number}
 use Rattle.model.specs.Request.{function_of, judge}
-use Rattle.model.specs.Results.{result_code}
+use Rattle.model.specs.Results.{failure_code}
 
 -- Of a frame under four bytes there is no function to tell; from four bytes on it is byte 1, also beside H10.
 abbrev pub has_function : List ℕ → Bool
@@ -20,7 +20,7 @@ function_part frame = cond (has_function frame) (function_of frame) 0x00
 abbrev pub result_part : Judged → ℕ
 result_part (Ok request) = 0x00
 result_part (Err (NoFrame house)) = 0x00
-result_part (Err (Fails result)) = result_code result
+result_part (Err (Fails failure)) = failure_code failure
 
 -- bits 16 to 23: the number of the house refusal that it draws, 6 or 10, or 0 where it draws none
 abbrev pub house_part : Judged → ℕ

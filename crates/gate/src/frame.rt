@@ -5,7 +5,7 @@ ghost use Rattle.gate.specs.FrameNumber.{house_part, result_part, frame_number};
 
 use crate::bytes::{byte_at, word_of};
 use crate::numbers::{house_number, result_code};
-use model::{FunctionResult, House, Judged, Request};
+use model::{Failure, Fault, House, Judged, Request};
 
 // H6: "request under 4 bytes". #103: "H6 keeps the first meaning"
 fn cut_frame(frame: &[u8]) -> bool
@@ -98,18 +98,18 @@ pub fn judge(frame: &[u8]) -> Judged
     ensures { result ≡ judge frame.now }
 {
     if cut_frame(frame) {
-        return Judged::NoFrame(House::CutFrame);
+        return Err(Fault::NoFrame(House::CutFrame));
     }
     if wrong_frame(frame) {
-        return Judged::NoFrame(House::WrongFrame);
+        return Err(Fault::NoFrame(House::WrongFrame));
     }
     if !known(byte_at(frame, 1)) {
-        return Judged::Fails(FunctionResult::UnknownSmpFunction);
+        return Err(Fault::Fails(Failure::UnknownSmpFunction));
     }
     if !length_right(frame) {
-        return Judged::Fails(FunctionResult::InvalidRequestFrameLength);
+        return Err(Fault::Fails(Failure::InvalidRequestFrameLength));
     }
-    Judged::Asked(asked(frame))
+    Ok(asked(frame))
 }
 
 // The code of a judgement's failed result, or 00h where there is none.
@@ -117,9 +117,9 @@ fn result_part(judged: Judged) -> u8
     ensures { result ≡ result_part judged }
 {
     match judged {
-        Judged::Asked(_) => 0x00,
-        Judged::NoFrame(_) => 0x00,
-        Judged::Fails(result) => result_code(result),
+        Ok(_) => 0x00,
+        Err(Fault::NoFrame(_)) => 0x00,
+        Err(Fault::Fails(failure)) => result_code(Err(failure)),
     }
 }
 
@@ -128,9 +128,9 @@ fn house_part(judged: Judged) -> u8
     ensures { result ≡ house_part judged }
 {
     match judged {
-        Judged::Asked(_) => 0,
-        Judged::NoFrame(house) => house_number(house),
-        Judged::Fails(_) => 0,
+        Ok(_) => 0,
+        Err(Fault::NoFrame(house)) => house_number(house),
+        Err(Fault::Fails(_)) => 0,
     }
 }
 
