@@ -4,6 +4,8 @@ use Rattle.std.specs.Prelude.{ℕ, Bool, not, ◌&&◌, ◌||◌, ltb, eqb, Ok, 
 use Rattle.model.specs.declared.Effect.{Effect}
 use Rattle.model.specs.declared.EventOutcome.{EventOutcome}
 use Rattle.model.specs.declared.House.TheVariants.{NoSuchPhy, EventSource, Amount}
+use Rattle.model.specs.declared.Notice.{Notice}
+use Rattle.model.specs.declared.Notice.TheVariants.{Expander3, Ses0}
 use Rattle.model.specs.declared.Outcome.{Outcome}
 use Rattle.model.specs.declared.Phy.{Phy}
 use Rattle.model.specs.declared.Shelf.{Shelf}
@@ -56,3 +58,7 @@ reduced_functionality s = put_device s (originate s.expander3) s.ses0
 
 unfoldable pub ses_notice : Shelf → Shelf
 ses_notice s = put_device s s.expander3 (originate s.ses0)
+
+abbrev pub noticed : Shelf → Notice → Shelf
+noticed s Expander3 = reduced_functionality s
+noticed s Ses0 = ses_notice s

@@ -188,6 +188,13 @@ pub struct Outcome {
     pub shelf: Shelf,
 }
 
+// The two device notices, by the counts under FFh that they originate: Expander 3h (reduced functionality) and SES 0h.
+#[derive(Clone, Copy, Debug, PartialEq, Eq)]
+pub enum Notice {
+    Expander3,
+    Ses0,
+}
+
 // What is told of an event report that was counted (#104): whether its own addition to an error count was cut.
 #[derive(Clone, Copy, Debug, PartialEq, Eq)]
 pub struct Counted {
