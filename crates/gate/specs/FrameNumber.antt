@@ -26,7 +26,7 @@ result_part (Err (Fails failure)) = failure_code failure
 abbrev pub house_part : Judged → ℕ
 house_part (Ok request) = 0
 house_part (Err (NoFrame house)) = house_number house
-house_part (Err (Fails result)) = 0
+house_part (Err (Fails failure)) = 0
 
 -- bits 24 to 31: 1 where there is a function to tell, and 0 where there is none
 abbrev pub has_function_part : List ℕ → ℕ

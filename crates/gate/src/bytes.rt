@@ -6,12 +6,12 @@ ghost use Rattle.model.specs.Bytes.{byte};
 pub fn byte_at(frame: &[u8], i: usize) -> u8
     ensures { result ≡ byte frame.now i }
 {
-    if i < frame.len() { frame[i] } else { 0x00 }
+    frame.get(i).copied().unwrap_or(0x00)
 }
 
 // "Numbers on the wire are big-endian": the number that two bytes stand for.
 pub fn word_of(high: u8, low: u8) -> u16
     ensures { result ≡ high * 0x100 + low }
 {
-    (high as u16) * 0x100 + (low as u16)
+    u16::from_be_bytes([high, low])
 }

@@ -10,5 +10,6 @@
 
 pub mod bytes;
 pub mod frame;
+mod function;
 pub mod numbers;
 pub mod zone;
