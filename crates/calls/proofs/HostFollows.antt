@@ -76,12 +76,15 @@ none_reads told clear =
     record { number = rw unset; bit_31 = λ refused. absurd (rw unset at refused) }
 
 pub taken_reads : (taken : Taken) → Reads (taken_told taken) (taken_number taken)
-taken_reads (Ok tt) = none_reads 0 refl
+taken_reads (Ok done) = none_reads 0 refl
 taken_reads (Err house) = refused_reads house
 
 event_reads : (answer : EventAnswer) → Reads (event_told answer) (event_number answer)
-event_reads (told_cut true) = none_reads 1 refl
-event_reads (told_cut false) = none_reads 0 refl
+event_reads (Ok counted) = go counted.cut
+  where
+    go : (cut : Bool) → Reads (event_told (told_cut cut)) 0
+    go true = none_reads 1 refl
+    go false = none_reads 0 refl
 event_reads (Err house) = refused_reads house
 
 answer_reads : (s : Shelf) (g : ℕ) (frame : List ℕ) (room : ℕ) (reply : Reply) → (handle s g frame room).reply ≡ reply
@@ -119,7 +122,7 @@ event_tells answer =
 
 -- and nothing else is told by 1: a response has 4 bytes or more, and a set of one phy has its number above it
 taken_tells : (taken : Taken) → smp_cut (taken_told taken) ≡ false
-taken_tells (Ok tt) = refl
+taken_tells (Ok done) = refl
 taken_tells (Err house) = refused_tells house
 
 answer_tells : (s : Shelf) (g : ℕ) (frame : List ℕ) (room : ℕ) (reply : Reply) → (handle s g frame room).reply ≡ reply

@@ -1,9 +1,9 @@
--- One call that goes as the model does: nothing but the words and what is asked for matters to it; its house Rattle.std.specs.Prelude.{Err}
-use refusal is the lowest that
+-- One call that goes as the model does: nothing but the words and what is asked for matters to it; its house refusal is the lowest that
 -- applies, and leaves words and buffer; H6 tells a cut frame and H10 a wrong one, and neither learns anything; a failed result leaves the
 -- words; a write has its full effect or none; group 1 is given the list of stored peak events, no other group is, and what is stored
 -- comes with its origination; and that its own addition was cut (#104) is told to an event report exactly if it was, and to nothing else.
 -- Assumes nothing.
+use Rattle.std.specs.Prelude.{Err}
 use Prim.Native.Nat.{ℕ, ◌≤◌, ◌<◌}
 use native.Mathlib.Omega.{arith}
 use mathlib.Core.Path.{◌≡◌, refl, sym, ap, ap₂, subst, subst⁻¹, ◌∙◌}
@@ -67,8 +67,11 @@ said_stays s (QueryReach g) refused = (refl, refl)
 
 -- that an addition was cut is told to an event report (#104), and to nothing else
 pub says_cut_iff : (answer : EventAnswer) → T (event_says_cut answer) ↔ (answer ≡ told_cut true)
-says_cut_iff (told_cut true) = (λ t. refl, λ e. tt)
-says_cut_iff (told_cut false) = (λ t. absurd t, λ e. subst⁻¹ (λ answer. T (event_says_cut answer)) e tt)
+says_cut_iff (Ok counted) = go counted.cut
+  where
+    go : (cut : Bool) → T cut ↔ (told_cut cut ≡ told_cut true)
+    go true = (λ t. refl, λ e. tt)
+    go false = (λ t. absurd t, λ e. subst⁻¹ (λ answer. T (event_says_cut answer)) e tt)
 says_cut_iff (Err house) = (λ t. absurd t, λ e. subst⁻¹ (λ answer. T (event_says_cut answer)) e tt)
 
 told_to_events : (s : Shelf) (o : Operation) → T (says_cut (said s o))

@@ -1,7 +1,7 @@
--- A start that goes as the model does: its house Rattle.std.specs.Prelude.{Ok, Err}
-use refusal is the lowest that applies, and leaves the words; and a run that it begins keeps
+-- A start that goes as the model does: its house refusal is the lowest that applies, and leaves the words; and a run that it begins keeps
 -- the invariant, has its history for the list of stored peak events, leaves each error count as it was tallied (#104), and meets demand 3.
 -- Assumes nothing.
+use Rattle.std.specs.Prelude.{Ok, Err}
 use Prim.Native.Nat.{ℕ, ◌+◌, ◌≤◌, ◌<◌}
 use native.Mathlib.Omega.{arith}
 use mathlib.Core.Path.{◌≡◌, refl, sym, ap, subst, subst⁻¹, ◌∙◌}
@@ -34,7 +34,7 @@ use Rattle.calls.proofs.ManyCalls.{Go, Ends, ends, got_answers}
 -- the words after a start that is refused
 refused_words : (ws : List ℕ) (taken : Taken) (s : Shelf) → 1 ≤ taken_number taken
     → started_words ws (record { taken = taken; shelf = s }) ≡ ws
-refused_words ws (Ok tt) s refused = absurd (omega arith)
+refused_words ws (Ok done) s refused = absurd (omega arith)
 refused_words ws (Err house) s refused = refl
 
 module _ {A : Type 0} (coded : Said → A) (refusal : A → ℕ)

@@ -76,7 +76,7 @@ refusals s (QueryReach g) = query_refusals g
 -- ---- #104: whether an event report is told that its own addition was cut; nothing else is ever told so.
 
 abbrev pub event_says_cut : EventAnswer → Bool
-event_says_cut (told_cut cut) = cut
+event_says_cut (Ok counted) = counted.cut
 event_says_cut (Err house) = false
 
 abbrev pub says_cut : Said → Bool

@@ -50,7 +50,7 @@ server_seen (link_change_call c) =
 server_seen (notice_call c) =
     record {
       before = c.arguments.0.now;
-      asked = cond c.arguments.1.0 Ses ReducedFunctionality;
+      asked = notice_asked c.arguments.1.0;
       after = c.outcome.lent.0;
       told = ToNotice;
       buffer = [];

@@ -1,11 +1,11 @@
--- What C reads off the number that it is told (firmware/kinubarsil.h): whether it is a house Rattle.std.specs.Prelude.{Err}
-use refusal and which, whether an event report's
+-- What C reads off the number that it is told (firmware/kinubarsil.h): whether it is a house refusal and which, whether an event report's
 -- own addition was cut, the length of a response, the set of phys that are reached and their number. Assumes nothing.
+use Rattle.std.specs.Prelude.{Ok, Err}
 use Prim.Native.Nat.{ℕ, ◌/◌, ◌%◌, ◌≤◌}
 use native.Mathlib.Omega.{arith}
 use mathlib.Core.Path.{◌≡◌, refl, ap}
 use mathlib.Core.Logic.{◌↔◌}
-use mathlib.Core.Bool.{true, false, not}
+use mathlib.Core.Bool.{Bool, true, false, not}
 use mathlib.Core.List.{List}
 use lib.Count.{ones-le}
 use lib.Dec.{ltb}
@@ -29,8 +29,11 @@ refused_read house = let (_, few) = house_range house in (omega arith, omega ari
 
 -- an event report is told by 1 exactly where its own addition was cut (#104)
 pub event_read : (answer : EventAnswer) → (event_told answer ≡ 1) ↔ (answer ≡ told_cut true)
-event_read (told_cut true) = (λ e. refl, λ e. refl)
-event_read (told_cut false) = (λ e. absurd (omega arith), λ e. ap event_told e)
+event_read (Ok counted) = go counted.cut
+  where
+    go : (cut : Bool) → (event_told (told_cut cut) ≡ 1) ↔ (told_cut cut ≡ told_cut true)
+    go true = (λ e. refl, λ e. refl)
+    go false = (λ e. absurd (omega arith), λ e. ap event_told e)
 event_read (Err house) = (λ e. absurd (omega (arith, house_range house)), λ e. ap event_told e)
 
 -- a response is told by its length, 4 to 400, and so without bit 31

@@ -2,7 +2,7 @@
 -- not set, the number is what was asked for.
 use Rattle.std.specs.Prelude.{ℕ, ◌+◌, ◌*◌, ◌≤◌, ◌<◌, cond, Ok, Err}
 use Rattle.model.specs.declared.House.{House}
-use Rattle.model.specs.Answers.{Answer, EventAnswer, Reach, Taken, reach_gives, told_cut}
+use Rattle.model.specs.Answers.{Answer, EventAnswer, Reach, Taken}
 use Rattle.model.specs.House.{house_number}
 
 abbrev pub refused_told : House → ℕ
@@ -10,12 +10,12 @@ refused_told house = 0x80000000 + house_number house
 
 -- a start or a link change: 0 where it is done
 abbrev pub taken_told : Taken → ℕ
-taken_told (Ok tt) = 0
+taken_told (Ok done) = 0
 taken_told (Err house) = refused_told house
 
 -- an event report (#104): 0 where it is counted, and 1 where its own addition to an error count was cut
 abbrev pub event_told : EventAnswer → ℕ
-event_told (told_cut cut) = cond cut 1 0
+event_told (Ok counted) = cond counted.cut 1 0
 event_told (Err house) = refused_told house
 
 -- a request: the length of the response
@@ -25,7 +25,7 @@ answer_told (Err house) = refused_told house
 
 -- a reach query: the set of phys in bits 0 to 23, and how many they are in bits 24 to 28
 abbrev pub reach_told : Reach → ℕ
-reach_told (reach_gives phys number) = number * 0x1000000 + phys
+reach_told (Ok reached) = reached.number * 0x1000000 + reached.phys
 reach_told (Err house) = refused_told house
 
 -- What `answer_told` and `reach_told` ask of what they code, and what the server's answers have (proofs/Coding.antt): room in their bits.
@@ -34,5 +34,5 @@ AnswerFits (Ok size) = size ≤ 400
 AnswerFits (Err house) = Unit {0}
 
 abbrev pub ReachFits : Reach → Type 0
-ReachFits (reach_gives phys number) = (phys < 0x1000000) × (number ≤ 24)
+ReachFits (Ok reached) = (reached.phys < 0x1000000) × (reached.number ≤ 24)
 ReachFits (Err house) = Unit {0}

@@ -1,0 +1,54 @@
+// What a write or a report does to its phy, carried out on the words.
+ghost use Rattle.std.specs.Prelude.{◌≡◌};
+ghost use Rattle.model.specs.Store.{carried_out};
+ghost use Rattle.model.specs.Writes.{effect};
+ghost use Rattle.words.specs.Words.{shelf_of, laid_over};
+
+use counters::counts::originate;
+use model::{Effect, Request};
+use words::WORDS;
+use words::read::{changes, phy_at};
+use words::store::{put, store_entry};
+use writes::configure::configured;
+use writes::control::controlled;
+
+// The phy is put, "Change also moves the change count the same way", and what is stored (#101) is stored in monitor order.
+pub(crate) fn carry_out(words: &mut [u32; WORDS], phy: u8, done: Effect)
+    ensures { words.new
+        ≡ laid_over words.old (carried_out (shelf_of words.old) phy done) }
+{
+    let count = changes(words);
+    let count = if done.change { originate(count) } else { count };
+    put(words, phy.into(), done.phy, count);
+    for stored in done.stored {
+        if let Some(monitor) = stored {
+            store_entry(words, phy, monitor);
+        }
+    }
+}
+
+// An accepted 91h or 93h has its full effect; a read leaves the words.
+#[tactic(auto, unfolding(model::specs::Writes::effect, model::specs::Writes::doing))]
+pub(crate) fn take_effect(words: &mut [u32; WORDS], frame: &[u8], request: Request)
+    ensures { words.new
+        ≡ laid_over words.old (effect (shelf_of words.old) frame.now request) }
+{
+    match request {
+        Request::PhyControl {
+            expected: _,
+            phy,
+            operation,
+        } => carry_out(words, phy, controlled(operation, phy_at(words, phy.into()))),
+        Request::ConfigurePhyEvent {
+            expected: _,
+            clear,
+            phy,
+            number,
+        } => carry_out(
+            words,
+            phy,
+            configured(frame, number, clear, phy_at(words, phy.into())),
+        ),
+        _ => {}
+    }
+}
