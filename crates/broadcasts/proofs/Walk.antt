@@ -3,18 +3,17 @@
 use Prim.Native.Nat.{ℕ, ◌+◌, ◌≤◌, ◌<◌}
 use native.Mathlib.Numerals.{add-one}
 use native.Mathlib.Omega.{arith}
-use mathlib.Core.Path.{◌≡◌, ◌∙◌}
+use mathlib.Core.Path.{◌≡◌}
 use mathlib.Core.List.{List, ◌++◌}
 use lib.ListN.{length, get_or}
 use Rattle.model.specs.declared.Phy.{Phy}
 use Rattle.model.specs.Reply.{Broadcast, seen_listed}
-use Rattle.model.specs.Server.{least_buffer}
 use Rattle.model.specs.Shelf.{no_phy}
 use Rattle.model.specs.Tests.{join_below}
 use Rattle.model.proofs.Demands.Frames.{seen_few}
 use Rattle.model.proofs.Laws.Join.{join_few}
 use Rattle.replies.specs.Listed.{Lists}
-use Rattle.replies.proofs.Listing.{lists_none, lists_append, lists_length}
+use Rattle.replies.proofs.Listing.{lists_none, lists_append}
 use Rattle.broadcasts.specs.Listed.{broadcast_list}
 
 -- what a source with this row sees of phy p
@@ -42,14 +41,9 @@ module _ {phys : List Phy} {row kind n₀ : ℕ} {out₀ : List ℕ} {number p n
 
   -- before the loop the counts under FFh are listed
   module _ {first : List ℕ} {device : List Broadcast} (begun : Lists broadcast_list first 0 device n₀ out₀) where
-    -- listing keeps the buffer's length
-    pub walk_length : length out ≡ length first
-    walk_length = lists_length walked.lists ∙ lists_length begun
-
     -- there is room for what belongs to one phy more
-    pub walk_room : length device ≤ 1 → least_buffer ≤ length first → p < 24 → (least_buffer ≤ length out) × (n ≤ 47)
-    walk_room one room below =
-        omega (arith, walk_length, join_few p 2 (seen phys row kind) (λ q. seen_few row kind q (get_or phys q no_phy)))
+    pub walk_room : length device ≤ 1 → p < 24 → n ≤ 47
+    walk_room one below = omega (arith, join_few p 2 (seen phys row kind) (λ q. seen_few row kind q (get_or phys q no_phy)))
 
     pub walk_end : number ≤ p → Lists broadcast_list first 0 (device ++ join_below number (seen phys row kind)) n out
     walk_end all =

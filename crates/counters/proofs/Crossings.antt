@@ -1,12 +1,10 @@
--- Which monitors a report takes to their thresholds, as marks. On a source that is no peak it takes none there; and a count that is
--- originated once for each mark is originated once for each monitor. Assumes nothing.
-use Rattle.std.proofs.Common.{◌≡◌, ℕ, Bool, true, false, eqb, List, [], ◌∷◌, length, replicate, sym, refl, ap, ◌∙◌, arith, eqb-true}
+-- Which monitors a report takes to their thresholds. On a source that is no peak it takes none there. Assumes nothing.
+use Rattle.std.proofs.Common.{◌≡◌, ℕ, Bool, true, false, eqb, List, [], ◌∷◌, length, map, replicate, None, refl, ap, ◌∙◌, arith, eqb-true}
 use Rattle.model.specs.declared.Monitor.{Monitor}
-use Rattle.model.specs.Counting.{counted, crosses, crossings, originate_if, originate_crossings}
+use Rattle.model.specs.Counting.{counted, crosses, crossings, marked}
 use Rattle.model.specs.Sources.{peak}
 use Rattle.model.proofs.Laws.Tests.{is_false}
-use Rattle.model.proofs.Plain.Counting.{crosses_iff, crossings_next}
-use Rattle.counters.specs.Marked.{originate_marked}
+use Rattle.model.proofs.Plain.Counting.{crosses_iff}
 
 -- a monitor on another kind of source, and one whose value stays, cross nothing
 not_a_peak : (m : Monitor) (after : ℕ) → peak m.source ≡ false → crosses m after ≡ false
@@ -29,14 +27,7 @@ module _ (source amount : ℕ) where
       go true e = not_a_peak m _ (ap peak (eqb-true m.source source e) ∙ counts)
       go false e = same_value m _ (rw e)
 
-  pub none_crossed : peak source ≡ false → (ms : List Monitor) → crossings source amount ms ≡ replicate (length ms) false
+  pub none_crossed : peak source ≡ false → (ms : List Monitor)
+      → marked (crossings source amount ms) (map (counted source amount) ms) ≡ replicate (length ms) None
   none_crossed counts [] = refl
   none_crossed counts (m ∷ ms) = rw (not_crossed counts m, none_crossed counts ms)
-
-  pub marked_crossed : (ms : List Monitor) (count : ℕ)
-      → originate_marked (crossings source amount ms) count
-      ≡ originate_crossings source amount ms count
-  unfolding originate_marked
-  marked_crossed [] count = refl
-  marked_crossed (m ∷ ms) count =
-      marked_crossed ms (originate_if (crosses m (counted source amount m).value) count) ∙ sym (crossings_next source amount m ms count)

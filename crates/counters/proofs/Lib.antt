@@ -2,7 +2,7 @@
 -- goal's name, and where there is a loop `Invariants.antt` has what holds at each turn. A function without such a file is proved by the
 -- search alone.
 
--- Facts that two proofs use.
+-- Which monitors a report takes to their thresholds.
 pub mod Crossings
 -- Each public promise settles its outcome.
 pub mod Settled

@@ -5,24 +5,25 @@ ghost use Rattle.std.specs.Prelude.{◌≡◌};
 ghost use Rattle.model.specs.Sources.{counting, peak, supported};
 
 // "counting 01h to 06h, 20h to 2Ah, 40h to 45h"
+#[tactic(auto, unfolding(model::specs::Sources::counting))]
 pub fn counting(source: u32) -> bool
     ensures { result ≡ counting source }
 {
-    (0x01 <= source) & (source <= 0x06)
-        | (0x20 <= source) & (source <= 0x2A)
-        | (0x40 <= source) & (source <= 0x45)
+    matches!(source, 0x01..=0x06 | 0x20..=0x2A | 0x40..=0x45)
 }
 
 // "peak 2Bh to 2Eh"
+#[tactic(auto, unfolding(model::specs::Sources::peak))]
 pub fn peak(source: u32) -> bool
     ensures { result ≡ peak source }
 {
-    (0x2B <= source) & (source <= 0x2E)
+    matches!(source, 0x2B..=0x2E)
 }
 
 // "Supported sources": both kinds, and so not 00h
+#[tactic(auto, unfolding(model::specs::Sources::supported))]
 pub fn supported(source: u32) -> bool
     ensures { result ≡ supported source }
 {
-    counting(source) | peak(source)
+    counting(source) || peak(source)
 }

@@ -6,7 +6,7 @@ ghost use Rattle.gate.specs.Function.{function_code};
 
 use crate::bytes::{byte_at, word_of};
 use crate::function::Function;
-use crate::numbers::{house_number, result_code};
+use crate::numbers::house_number;
 use model::{Failure, Fault, House, Judged, Request};
 
 // H6: "request under 4 bytes". #103: "H6 keeps the first meaning"
@@ -37,9 +37,9 @@ fn length_right(function: Function, frame: &[u8]) -> bool
     let d = byte_at(frame, 11) as usize;
     let size = frame.len();
     match function {
-        Function::ReportGeneral => size == 4 && length == 0x00,
-        Function::ReportManufacturer => size == 4 && length == 0x00,
-        Function::ReportBroadcast => size == 4 && length == 0x00,
+        Function::ReportGeneral | Function::ReportManufacturer | Function::ReportBroadcast => {
+            size == 4 && length == 0x00
+        }
         Function::ReportPhyErrorLog => size == 12 && (length == 0x02 || length == 0x00),
         Function::ReportPhyEvent => size == 12 && length == 0x02,
         Function::ReportPhyEventList => size == 8 && length == 0x01,
@@ -107,7 +107,7 @@ fn result_part(judged: Judged) -> u8
     match judged {
         Ok(_) => 0x00,
         Err(Fault::NoFrame(_)) => 0x00,
-        Err(Fault::Fails(failure)) => result_code(Err(failure)),
+        Err(Fault::Fails(failure)) => failure as u8,
     }
 }
 

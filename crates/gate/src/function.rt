@@ -1,9 +1,7 @@
 // The functions that the shelf knows, each with its code.
-ghost use Rattle.std.specs.Prelude.{◌≡◌, MatchResult};
-
 use model::Failure;
 
-#[derive(Clone, Copy, Debug, PartialEq, Eq)]
+#[derive(Clone, Copy)]
 pub(crate) enum Function {
     ReportGeneral = 0x00,
     ReportManufacturer = 0x01,

@@ -8,8 +8,5 @@ ghost use Rattle.model.specs.Zone.{row_reaches};
 pub extern "C" fn smp_row_reaches(row: u32, group: u32) -> bool
     ensures { result ≡ row_reaches row group }
 {
-    if 31 < group {
-        return false;
-    }
-    (row >> group) % 2 == 1
+    group <= 31 && (row >> group) % 2 == 1
 }

@@ -8,7 +8,6 @@
 
 ghost use Rattle.std.specs.Prelude.{◌≡◌, ◌∷◌, [], ◌+◌, ◌-◌, ◌%◌, ◌≤◌, ◌<◌, length, drop};
 ghost use Rattle.model.specs.Reply.{event_list_head, report_phy_event_list};
-ghost use Rattle.model.specs.Server.{least_buffer};
 ghost use Rattle.model.specs.Store.{kept, entries, returned};
 ghost use Rattle.model.proofs.Plain.EventList.{first_of};
 ghost use Rattle.model.proofs.Plain.Store.{far};
@@ -19,64 +18,66 @@ ghost use Rattle.peaks.specs.Listed.{entry_list};
 
 use model::{Entry, LEAST_BUFFER};
 use replies::fixed::entry_descriptor;
-use replies::wire::two;
 use words::WORDS;
-use words::read::{count, entry_at, last, low16};
+use words::read::{changes, count, entry_at, last};
 
 // How many entries are kept: none where no index was stored, and 32 at most.
-fn kept(words: &[u32; WORDS]) -> u32
+fn kept(words: &[u32; WORDS]) -> u8
     ensures { result ≡ kept (shelf_of words.now).store }
 {
     if last(words) == 0x0000 {
         return 0;
     }
-    let stores = count(words);
-    if stores < 32 { stores } else { 32 }
+    count(words).min(32) as u8
 }
 
 // How far before the last index a start is: "Indexes run from 0001h and go from FFFFh to 0001h."
-fn far(last: u16, start: u16) -> u32
+fn far(last: u16, start: u16) -> u16
     ensures { result ≡ far last start }
 {
     if start <= last {
-        return (last - start) as u32;
+        last - start
+    } else {
+        last + (0xFFFF - start)
     }
-    (last as u32) + 0xFFFF - (start as u32)
 }
 
 // How many entries a start is given: "A start of 0000h .. none"; one that is stored, those from it to the newest; one that
 // is not, all.
-fn number_returned(words: &[u32; WORDS], start: u16) -> u32
+fn number_returned(words: &[u32; WORDS], start: u16) -> u8
     ensures { result ≡ length (returned (shelf_of words.now).store start) }
 {
-    let kept = kept(words);
-    let before = far(last(words), start);
     if start == 0x0000 {
         return 0;
     }
-    if before < kept { before + 1 } else { kept }
+    let kept = kept(words);
+    let before = far(last(words), start);
+    if before < kept as u16 {
+        before as u8 + 1
+    } else {
+        kept
+    }
 }
 
 // The index of the first of the last n entries, and 0000h where there is none.
-fn first_index(last: u16, n: u32) -> u16
+fn first_index(last: u16, n: u8) -> u16
     requires { n ≤ 32 }
     ensures { result ≡ first_of last n }
 {
     if n == 0 {
         return 0x0000;
     }
-    let last = last as u32;
-    let before = n - 1;
+    let before = n as u16 - 1;
     if before < last {
-        return (last - before) as u16;
+        last - before
+    } else {
+        last + (0xFFFF - before)
     }
-    (last + 0xFFFF - before) as u16
 }
 
 // One entry of the list, as descriptor n.
-fn list(out: &mut [u8], n: u32, e: Entry)
-    requires room { least_buffer ≤ length out.old }
-    requires few { n ≤ 31 }
+fn list(out: &mut [u8; LEAST_BUFFER], n: u8, e: Entry)
+    requires { n ≤ 31 }
     ensures { Lists entry_list out.old n (e ∷ []) (n + 1) out.new }
 {
     let at = 12 + 12 * (n as usize);
@@ -85,17 +86,16 @@ fn list(out: &mut [u8], n: u32, e: Entry)
 
 // Where entry i of the last n stands, "oldest first": they stand in a row that goes round, and end before the place of the
 // next store.
-fn place_of(stores: u32, n: u32, i: u32) -> u32
+fn place_of(stores: u32, n: u8, i: u8) -> u32
     requires { (n ≤ 32) × (i < n) }
     ensures { result ≡ (stores % 32 + (32 - n) + i) % 32 }
 {
-    (stores % 32 + (32 - n) + i) % 32
+    (stores % 32 + (32 - n as u32) + i as u32) % 32
 }
 
 // The last n entries: "The list runs in stored order to the newest."
-fn list_last(words: &[u32; WORDS], n: u32, out: &mut [u8])
-    requires room { least_buffer ≤ length out.old }
-    requires stored { n ≤ kept (shelf_of words.now).store }
+fn list_last(words: &[u32; WORDS], n: u8, out: &mut [u8; LEAST_BUFFER])
+    requires { n ≤ kept (shelf_of words.now).store }
     ensures { Lists entry_list out.old 0 (drop (kept (shelf_of words.now).store - n) (entries (shelf_of words.now).store))
         n out.new }
 {
@@ -111,23 +111,36 @@ fn event_list_head(changes: u16, first: u16, last: u16, n: u8) -> [u8; 12]
     requires { n ≤ 32 }
     ensures { result ≡ event_list_head changes first last n }
 {
-    let count = two(changes);
-    let from = two(first);
-    let to = two(last);
+    let [changes_high, changes_low] = changes.to_be_bytes();
+    let [first_high, first_low] = first.to_be_bytes();
+    let [last_high, last_low] = last.to_be_bytes();
     [
         0x41,
         0x21,
         0x00,
         2 + 3 * n,
-        count[0],
-        count[1],
-        from[0],
-        from[1],
-        to[0],
-        to[1],
+        changes_high,
+        changes_low,
+        first_high,
+        first_low,
+        last_high,
+        last_low,
         3,
         n,
     ]
+}
+
+// The response to 21h, where there is room for it. Gives its length.
+fn send(words: &[u32; WORDS], start: u16, out: &mut [u8; LEAST_BUFFER]) -> usize
+    ensures { Sent out.old
+        (report_phy_event_list (shelf_of words.now).changes (shelf_of words.now).store start)
+        result out.new }
+{
+    let n = number_returned(words, start);
+    list_last(words, n, out);
+    let last = last(words);
+    out[..12].copy_from_slice(&event_list_head(changes(words), first_index(last, n), last, n));
+    12 + 12 * (n as usize)
 }
 
 // The response to 21h, in the lent buffer. Gives its length. Into a buffer that is too short nothing is sent.
@@ -136,14 +149,8 @@ pub fn report_phy_event_list(words: &[u32; WORDS], start: u16, out: &mut [u8]) -
         (report_phy_event_list (shelf_of words.now).changes (shelf_of words.now).store start)
         result out.new }
 {
-    if out.len() < LEAST_BUFFER {
-        return 0;
+    match out.first_chunk_mut() {
+        Some(front) => send(words, start, front),
+        None => 0,
     }
-    let n = number_returned(words, start);
-    list_last(words, n, out);
-    let last = last(words);
-    let first = first_index(last, n);
-    let head = event_list_head(low16(words[1]), first, last, n as u8);
-    out[..12].copy_from_slice(&head);
-    12 + 12 * (n as usize)
 }

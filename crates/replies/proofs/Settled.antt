@@ -9,7 +9,6 @@ use Rattle.replies.proofs.fixed.report_phy_error_log
 use Rattle.replies.proofs.fixed.report_phy_event
 use Rattle.replies.proofs.fixed.broadcast_descriptor
 use Rattle.replies.proofs.fixed.entry_descriptor
-use Rattle.replies.proofs.wire.two
 use Rattle.replies.proofs.sending.send_result
 
 pub failed_settled : Settled failed.Kinds.ps failed.Kinds.r failed.Reads.Pre failed.Reads.Post
@@ -32,9 +31,6 @@ broadcast_descriptor_settled = value_settles _ _ _ (λ κs a x y. refl)
 
 pub entry_descriptor_settled : Settled entry_descriptor.Kinds.ps entry_descriptor.Kinds.r entry_descriptor.Reads.Pre entry_descriptor.Reads.Post
 entry_descriptor_settled = value_settles _ _ _ (λ κs a x y. refl)
-
-pub two_settled : Settled two.Kinds.ps two.Kinds.r two.Reads.Pre two.Reads.Post
-two_settled = value_settles _ _ _ (λ κs a x y. refl)
 
 pub send_result_settled : Settled send_result.Kinds.ps send_result.Kinds.r send_result.Reads.Pre send_result.Reads.Post
 send_result_settled = record {

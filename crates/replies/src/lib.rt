@@ -10,4 +10,3 @@
 pub mod fixed;
 mod lay;
 pub mod sending;
-pub mod wire;

@@ -8,7 +8,7 @@ use model::{Monitor, Phy};
 pub fn phy_number(number: u32) -> u32
     ensures { result ≡ min number 24 }
 {
-    if 24 < number { 24 } else { number }
+    number.min(24)
 }
 
 // Phy p exists on a shelf of this phy number: they are "numbered from 0".
@@ -22,16 +22,11 @@ pub fn exists(number: u32, p: u32) -> bool
 pub fn fresh_phy(group: u32) -> Phy
     ensures { result ≡ fresh_phy group }
 {
-    let fresh = Monitor {
-        source: 0x00,
-        value: 0,
-        threshold: 0,
-    };
     Phy {
         group,
         enabled: true,
         errors: [0; 4],
-        monitors: [fresh; 4],
+        monitors: [Monitor::default(); 4],
         change0: 0,
         expander1: 0,
         expander2: 0,

@@ -8,11 +8,9 @@ use gate::zone::smp_row_reaches;
 pub fn phy_bit(row: u32, group: u32, p: u32) -> u32
     ensures { result ≡ cond (ltb p 24) (cond (row_reaches row group) (2 ^ p) 0) 0 }
 {
-    if 24 <= p {
-        return 0;
+    if p < 24 && smp_row_reaches(row, group) {
+        1 << p
+    } else {
+        0
     }
-    if smp_row_reaches(row, group) {
-        return 1 << p;
-    }
-    0
 }

@@ -11,11 +11,10 @@ pub fn start_group(number: u32, groups: [u32; 24], p: u32) -> u32
     ensures { result ≡ start_group number groups p }
 {
     if p < number {
-        if p < 24 {
-            return groups[p as usize];
-        }
+        groups.get(p as usize).copied().unwrap_or(0)
+    } else {
+        0
     }
-    0
 }
 
 // Not H2: the group of each phy is a zone group.
@@ -23,25 +22,22 @@ fn groups_fit(number: u32, groups: [u32; 24]) -> bool
     requires { number ≤ 24 }
     ensures { result ≡ groups_fit number groups }
 {
-    let mut fit = true;
-    for p in 0..number {
-        fit = fit & (groups[p as usize] <= 31);
-    }
-    fit
+    groups[..number as usize].iter().all(|&group| group <= 31)
 }
 
 // H1 "phy number not 1 to 24", H2 "a phy's group is above 31", H3 "table not legal"
+#[tactic(auto, unfolding(model::specs::Shelf::start_taken))]
 pub fn start_taken(number: u32, groups: [u32; 24], table: [u32; 32]) -> Taken
     ensures { result ≡ start_taken number groups table }
 {
-    if !((1 <= number) & (number <= 24)) {
-        return Taken::NotDone(House::PhyNumber);
+    if !(1..=24).contains(&number) {
+        return Err(House::PhyNumber);
     }
     if !groups_fit(number, groups) {
-        return Taken::NotDone(House::PhyGroup);
+        return Err(House::PhyGroup);
     }
     if !legal_table(table) {
-        return Taken::NotDone(House::IllegalTable);
+        return Err(House::IllegalTable);
     }
-    Taken::Done
+    Ok(())
 }

@@ -9,27 +9,23 @@ fn row_symmetric(table: [u32; 32], g: u32) -> bool
     requires { g < 32 }
     ensures { result ≡ row_symmetric table g }
 {
-    let mut ok = true;
-    for h in 0..32u32 {
-        ok = ok & (smp_row_reaches(table[g as usize], h) == smp_row_reaches(table[h as usize], g));
-    }
-    ok
+    // Both groups stand here, as a row's place and as a bit of the other row.
+    (0..32u32).all(|h| {
+        smp_row_reaches(table[g as usize], h) == smp_row_reaches(table[h as usize], g)
+    })
 }
 
 // .. and for every row g
 fn symmetric(table: [u32; 32]) -> bool
     ensures { result ≡ symmetric table }
 {
-    let mut ok = true;
-    for g in 0..32u32 {
-        ok = ok & row_symmetric(table, g);
-    }
-    ok
+    (0..32u32).all(|g| row_symmetric(table, g))
 }
 
 // "A legal table is symmetric; row 1 is all ones; row 0 has bit 1 alone."
+#[tactic(auto, unfolding(model::specs::Zone::legal_table))]
 pub fn legal_table(table: [u32; 32]) -> bool
     ensures { result ≡ legal_table table }
 {
-    symmetric(table) & (table[1] == 0xFFFF_FFFF) & (table[0] == 0x0000_0002)
+    symmetric(table) && table[1] == 0xFFFF_FFFF && table[0] == 0x0000_0002
 }

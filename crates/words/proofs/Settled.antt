@@ -3,6 +3,10 @@ use mathlib.Core.Path.{refl, sym, ap, ◌∙◌}
 use Rattle.model.specs.Settled.{Settled}
 use Rattle.model.proofs.Laws.Settling.{value_settles}
 use Rattle.words.proofs.read.low16
+use Rattle.words.proofs.read.number
+use Rattle.words.proofs.read.changes
+use Rattle.words.proofs.read.expander3
+use Rattle.words.proofs.read.ses0
 use Rattle.words.proofs.read.phy_at
 use Rattle.words.proofs.read.row
 use Rattle.words.proofs.read.identifier
@@ -16,6 +20,18 @@ use Rattle.words.proofs.fresh.lay_fresh
 
 pub low16_settled : Settled low16.Kinds.ps low16.Kinds.r low16.Reads.Pre low16.Reads.Post
 low16_settled = value_settles _ _ _ (λ κs a x y. refl)
+
+pub number_settled : Settled number.Kinds.ps number.Kinds.r number.Reads.Pre number.Reads.Post
+number_settled = value_settles _ _ _ (λ κs a x y. refl)
+
+pub changes_settled : Settled changes.Kinds.ps changes.Kinds.r changes.Reads.Pre changes.Reads.Post
+changes_settled = value_settles _ _ _ (λ κs a x y. refl)
+
+pub expander3_settled : Settled expander3.Kinds.ps expander3.Kinds.r expander3.Reads.Pre expander3.Reads.Post
+expander3_settled = value_settles _ _ _ (λ κs a x y. refl)
+
+pub ses0_settled : Settled ses0.Kinds.ps ses0.Kinds.r ses0.Reads.Pre ses0.Reads.Post
+ses0_settled = value_settles _ _ _ (λ κs a x y. refl)
 
 pub phy_at_settled : Settled phy_at.Kinds.ps phy_at.Kinds.r phy_at.Reads.Pre phy_at.Reads.Post
 phy_at_settled = value_settles _ _ _ (λ κs a x y. refl)

@@ -149,7 +149,7 @@ abbrev pub words_of : Shelf → List ℕ
 words_of s = laid_over (replicate shelf_words 0) s
 
 abbrev pub started_as : List ℕ → Taken → Shelf → List ℕ
-started_as ws (Ok done) s = words_of s
+started_as ws (Ok tt) s = words_of s
 started_as ws (Err house) s = ws
 
 -- The words after a start: those of the fresh shelf; or, where it is refused, as they were: "A refused start gives no device."

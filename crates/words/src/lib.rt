@@ -28,7 +28,17 @@ const ENTRY_WORDS: usize = 1 + MONITOR_WORDS;
 
 // the shelf: what is device wide, then 32 rows, then 24 phys, then the list of stored peak events (the last index, how many
 // stores there were, 32 entries)
-const FIRST_ROW: usize = 12;
+const NUMBER: usize = 0;
+
+const CHANGES: usize = 1;
+
+const EXPANDER3: usize = 2;
+
+const SES0: usize = 3;
+
+const IDENTIFIER: usize = 4;
+
+const FIRST_ROW: usize = IDENTIFIER + 8;
 
 const FIRST_PHY: usize = FIRST_ROW + 32;
 

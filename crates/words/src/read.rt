@@ -7,8 +7,8 @@ ghost use Rattle.words.specs.Sizes.{monitor_words, phy_words, entry_words, shelf
 ghost use Rattle.words.specs.Words.{monitor_of, monitors_of, phy_of, entry_from, shelf_of};
 
 use crate::{
-    ENTRY_WORDS, FIRST_ENTRY, FIRST_PHY, FIRST_ROW, MONITOR_WORDS, PHY_COUNTS, PHY_MONITORS,
-    PHY_WORDS, STORE_COUNT, STORE_LAST, WORDS,
+    CHANGES, ENTRY_WORDS, EXPANDER3, FIRST_ENTRY, FIRST_PHY, FIRST_ROW, MONITOR_WORDS, NUMBER,
+    PHY_COUNTS, PHY_MONITORS, PHY_WORDS, SES0, STORE_COUNT, STORE_LAST, WORDS,
 };
 use model::{Entry, Monitor, Phy};
 use shelf::phys::fresh_phy;
@@ -18,6 +18,38 @@ pub fn low16(word: u32) -> u16
     ensures { result ≡ word % 0x10000 }
 {
     (word % 0x10000) as u16
+}
+
+// The phy number.
+#[tactic(auto, unfolding(crate::specs::Words::shelf_of))]
+pub fn number(words: &[u32; WORDS]) -> u32
+    ensures { result ≡ (shelf_of words.now).number }
+{
+    words[NUMBER]
+}
+
+// The expander change count.
+#[tactic(auto, unfolding(crate::specs::Words::shelf_of))]
+pub fn changes(words: &[u32; WORDS]) -> u16
+    ensures { result ≡ (shelf_of words.now).changes }
+{
+    low16(words[CHANGES])
+}
+
+// Expander 3h: reduced functionality, under FFh.
+#[tactic(auto, unfolding(crate::specs::Words::shelf_of))]
+pub fn expander3(words: &[u32; WORDS]) -> u16
+    ensures { result ≡ (shelf_of words.now).expander3 }
+{
+    low16(words[EXPANDER3])
+}
+
+// SES 0h, under FFh.
+#[tactic(auto, unfolding(crate::specs::Words::shelf_of))]
+pub fn ses0(words: &[u32; WORDS]) -> u16
+    ensures { result ≡ (shelf_of words.now).ses0 }
+{
+    low16(words[SES0])
 }
 
 // The monitor whose words begin at a place.
@@ -109,6 +141,7 @@ pub fn identifier(words: &[u32; WORDS]) -> [u8; 8]
 }
 
 // The last index of the list of stored peak events, "0000h if none".
+#[tactic(auto, unfolding(crate::specs::Words::shelf_of, crate::specs::Words::store_of))]
 pub fn last(words: &[u32; WORDS]) -> u16
     ensures { result ≡ (shelf_of words.now).store.last }
 {
@@ -116,6 +149,7 @@ pub fn last(words: &[u32; WORDS]) -> u16
 }
 
 // How many stores there were, counted on from 32 after 63.
+#[tactic(auto, unfolding(crate::specs::Words::shelf_of, crate::specs::Words::store_of))]
 pub fn count(words: &[u32; WORDS]) -> u32
     ensures { result ≡ (shelf_of words.now).store.count }
 {

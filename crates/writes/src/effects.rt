@@ -8,11 +8,9 @@ use model::{Effect, Phy};
 pub(crate) fn quiet(after: Phy) -> Effect
     ensures { result ≡ quiet after }
 {
-    let monitors = after.monitors;
     Effect {
         phy: after,
         change: false,
-        monitors,
-        stored: [false; 4],
+        stored: [None; 4],
     }
 }

@@ -1,18 +1,8 @@
--- `broadcasts::report_broadcast` meets its contract: the list, and then its head in front of it. Assumes nothing.
-use Rattle.std.proofs.Common.{refl, arith}
-use Rattle.model.proofs.Demands.Frames.{broadcasts_few}
-use Rattle.words.specs.Words.{shelf_of}
-use Rattle.broadcasts.proofs.Listing.{report_sent}
+-- `broadcasts::report_broadcast` meets its contract: what is sent into the front is sent. Assumes nothing.
+use Rattle.replies.proofs.Front.{sent_in_front}
+use Rattle.broadcasts.proofs.Listing.{report_fits}
 use Rattle.broadcasts.proofs.report_broadcast.Goals as goal
 
--- src/lib.rt:115:5
-pub broadcast_head-requires : goal.broadcast_head-requires
-broadcast_head-requires c =
-    omega (arith, c.list_all-n.ensures.many, broadcasts_few (shelf_of c.args.words.now) c.args.source c.args.kind)
-
--- src/lib.rt:108:1
-pub returns : goal.returns
-unfolding shelf_of
-returns c =
-    report_sent (shelf_of c.args.words.now) c.args.source c.args.kind (omega arith) c.list_all-n.ensures
-    c.copy_from_slice.ensures.after (rw c.low16.ensures at c.broadcast_head.ensures) refl refl
+-- src/lib.rt:109:1
+pub returns-in-Some : goal.returns-in-Some
+returns-in-Some c = sent_in_front _ (report_fits _ _ _) c.in-Some.ensures.cases c.send.ensures

@@ -1,25 +1,20 @@
+-- `shelf::table::row_symmetric` meets its contract: each bit of the row is mirrored; for a group of 0 to 31 the row test is
+-- the bit. Assumes nothing.
 use borrow.Author.Tests.{le-leb}
-use Rattle.std.proofs.Common.{arith}
-use Rattle.model.specs.Zone.{row_reaches}
-use Rattle.shelf.proofs.All.{all_begin, all_turn, all_end}
+use mathlib.Core.Bool.{beq}
+use Rattle.std.proofs.Common.{ℕ, Bool, refl, arith, rules, tests, ◌∙◌}
+use Rattle.std.proofs.lemmas.Iterator.{YieldsList-from_range}
+use Rattle.std.proofs.lemmas.Iterator.Search.{all_from_yields_List}
+use Rattle.model.specs.Zone.{bit, row, row_reaches}
+use Rattle.shelf.proofs.All.{all_of_range}
 use Rattle.shelf.proofs.table.row_symmetric.Goals as goal
 
--- src/table.rt:13:5
-pub loop-h-init : goal.loop-h-init
-loop-h-init c = all_begin _ _
-
--- src/table.rt:13:5
-pub loop-h-preserved : goal.loop-h-preserved
-unfolding row_reaches
-loop-h-preserved c =
-    all_turn _ _ (omega arith) c.loop-h.invariant
-    (simp (
-      c.smp_row_reaches.ensures,
-      c.smp_row_reaches-in-loop-h.ensures,
-      le-leb c.loop-h.h 31 (omega arith),
-      le-leb c.args.g 31 (omega arith),
-    ))
-
--- src/table.rt:8:1
 pub returns : goal.returns
-returns c = all_end _ _ (omega arith) c.loop-h.invariant
+unfolding row_reaches
+returns c =
+    let g = c.args.g in
+    let table = c.args.table in
+    let reached : ℕ → Bool = λ h. beq (row_reaches (row table g) h) (row_reaches (row table h) g) in
+    all_from_yields_List reached _ _ _ c.all.ensures.ran (YieldsList-from_range 0 32 32 refl refl) (λ x b q k. search (rules, tests))
+    ∙ all_of_range reached (λ h. beq (bit (row table g) h) (bit (row table h) g)) 32
+    (λ h below. simp (le-leb h 31 (omega arith), le-leb g 31 (omega arith)))

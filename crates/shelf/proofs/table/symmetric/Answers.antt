@@ -1,17 +1,14 @@
-use Rattle.std.proofs.Common.{arith}
-use Rattle.model.specs.Zone.{symmetric}
-use Rattle.shelf.proofs.All.{all_begin, all_turn, all_end}
+-- `shelf::table::symmetric` meets its contract: each row is symmetric. Assumes nothing.
+use Rattle.std.proofs.Common.{refl, rules, tests, ◌∙◌}
+use Rattle.std.proofs.lemmas.Iterator.{YieldsList-from_range}
+use Rattle.std.proofs.lemmas.Iterator.Search.{all_from_yields_List}
+use Rattle.model.specs.Zone.{row_symmetric, symmetric}
+use Rattle.shelf.proofs.All.{all_of_range}
 use Rattle.shelf.proofs.table.symmetric.Goals as goal
 
--- src/table.rt:24:5
-pub loop-g-init : goal.loop-g-init
-loop-g-init c = all_begin _ _
-
--- src/table.rt:24:5
-pub loop-g-preserved : goal.loop-g-preserved
-loop-g-preserved c = all_turn _ _ (omega arith) c.loop-g.invariant c.row_symmetric-ok.ensures
-
--- src/table.rt:20:1
 pub returns : goal.returns
 unfolding symmetric
-returns c = all_end _ _ (omega arith) c.loop-g.invariant
+returns c =
+    all_from_yields_List (row_symmetric c.args.table) _ _ _ c.all.ensures.ran (YieldsList-from_range 0 32 32 refl refl)
+    (λ x b q k. search (rules, tests))
+    ∙ all_of_range _ _ 32 (λ g below. refl)

@@ -1,30 +1,30 @@
 -- `writes::descriptors::first_unsupported` meets its contract. The loop's invariant: the descriptors passed are allowed, so
 -- that the first unsupported one is that of those left. The measure is how many are left. Assumes nothing.
-use Rattle.std.proofs.Common.{◌≡◌, ℕ, suc, ◌+◌, ◌-◌, ◌<◌, Bool, cond, List, sym, ◌∙◌, add-one, arith}
+use Rattle.std.proofs.Common.{◌≡◌, ℕ, suc, ◌+◌, ◌-◌, ◌<◌, Bool, cond, List, Option, Some, None, sym, ◌∙◌, add-one, arith}
 use native.Mathlib.Nat.{sub-zero}
 use Rattle.model.specs.Request.{descriptor_source, allowed, first_unsupported}
 use Rattle.writes.proofs.descriptors.first_unsupported.Goals as goal
 
 -- past the last there is none
-none_left : (frame : List ℕ) (d i : ℕ) → i ≡ d → d ≡ first_unsupported frame (d - i) i
+none_left : (frame : List ℕ) (d i : ℕ) → i ≡ d → None ≡ first_unsupported frame (d - i) i
 unfolding first_unsupported
 none_left frame d i past =
     let none : d - i ≡ 0 = omega arith in
-    rw (none, past)
+    rw none
 
 -- the next descriptor is judged, and the rest only where it is allowed
 next_judged : (frame : List ℕ) (d i : ℕ) {source : ℕ} {ok : Bool}
     → i < d → source ≡ descriptor_source frame i → ok ≡ allowed source
-    → first_unsupported frame (d - i) i ≡ cond ok (first_unsupported frame (d - (i + 1)) (i + 1)) i
+    → first_unsupported frame (d - i) i ≡ cond ok (first_unsupported frame (d - (i + 1)) (i + 1)) (Some i)
 unfolding first_unsupported
 next_judged frame d i below is_source is_allowed =
     let one_more : d - i ≡ suc (d - (i + 1)) = omega arith in
     rw (one_more, is_allowed, is_source, add-one)
 
 -- what is left before a turn, by whether the descriptor of that turn is allowed
-judged : (frame : List ℕ) (d i : ℕ) {source : ℕ} {ok : Bool} {first : ℕ}
+judged : (frame : List ℕ) (d i : ℕ) {source : ℕ} {ok : Bool} {first : Option ℕ}
     → i < d → first_unsupported frame (d - i) i ≡ first → source ≡ descriptor_source frame i → ok ≡ allowed source
-    → first ≡ cond ok (first_unsupported frame (d - (i + 1)) (i + 1)) i
+    → first ≡ cond ok (first_unsupported frame (d - (i + 1)) (i + 1)) (Some i)
 judged frame d i below so_far is_source is_allowed =
     sym so_far ∙ next_judged frame d i below is_source is_allowed
 

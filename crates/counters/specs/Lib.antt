@@ -1,2 +1,0 @@
--- A count, and marks.
-pub mod Marked

@@ -1,0 +1,2 @@
+-- The phy operations by their codes.
+pub mod Operation
