@@ -1,5 +1,6 @@
 // What a write or a report does to its phy, carried out on the words.
 ghost use Rattle.std.specs.Prelude.{◌≡◌};
+ghost use Rattle.model.specs.Counting.{originate_if};
 ghost use Rattle.model.specs.Store.{carried_out};
 ghost use Rattle.model.specs.Writes.{effect};
 ghost use Rattle.words.specs.Words.{shelf_of, laid_over};
@@ -12,13 +13,20 @@ use words::store::{put, store_entry};
 use writes::configure::configured;
 use writes::control::controlled;
 
-// The phy is put, "Change also moves the change count the same way", and what is stored (#101) is stored in monitor order.
+// "Change also moves the change count the same way.": the change count after an effect that originated Change, or did not
+fn changes_after(words: &[u32; WORDS], change: bool) -> u16
+    ensures { result ≡ originate_if change (shelf_of words.now).changes }
+{
+    let count = changes(words);
+    if change { originate(count) } else { count }
+}
+
+// The phy is put, "Change also moves the change count the same way", and then what is stored (#101) is stored in monitor order.
 pub(crate) fn carry_out(words: &mut [u32; WORDS], phy: u8, done: Effect)
     ensures { words.new
         ≡ laid_over words.old (carried_out (shelf_of words.old) phy done) }
 {
-    let count = changes(words);
-    let count = if done.change { originate(count) } else { count };
+    let count = changes_after(words, done.change);
     put(words, phy.into(), done.phy, count);
     for stored in done.stored {
         if let Some(monitor) = stored {
@@ -28,7 +36,7 @@ pub(crate) fn carry_out(words: &mut [u32; WORDS], phy: u8, done: Effect)
 }
 
 // An accepted 91h or 93h has its full effect; a read leaves the words.
-#[tactic(auto, unfolding(model::specs::Writes::effect, model::specs::Writes::doing))]
+#[tactic(auto, using(words::proofs::Laying::laid_same), unfolding(model::specs::Writes::effect, model::specs::Writes::doing))]
 pub(crate) fn take_effect(words: &mut [u32; WORDS], frame: &[u8], request: Request)
     ensures { words.new
         ≡ laid_over words.old (effect (shelf_of words.old) frame.now request) }

@@ -31,7 +31,7 @@ use crate::reach::reach_set;
 use crate::responses::{respond, turned_away};
 use counters::counts::originate;
 use counters::phy::{change_on, event_on};
-use counters::report::event_taken;
+use counters::report::{Report, event_taken};
 use gate::bytes::byte_at;
 use gate::frame::judge;
 use model::{Answer, Counted, EventAnswer, House, LEAST_BUFFER, Notice, Reach, Reached, Taken};
@@ -43,6 +43,7 @@ use words::read::{expander3, phy_at, ses0};
 use words::store::put_device;
 
 // A start: the words of the fresh shelf are written; or it is refused, H1, H2 or H3, and they are as they were.
+#[tactic(auto, unfolding(model::specs::Shelf::start))]
 pub fn start(
     words: &mut [u32; WORDS],
     number: u32,
@@ -60,6 +61,7 @@ pub fn start(
 
 // One request: source group, request frame and lent buffer. The answer is the length of the response in the buffer, or
 // H4, H5, H6, H10, in this order.
+#[tactic(auto, using(words::proofs::Laying::laid_same), unfolding(model::specs::Server::served, model::specs::Server::lent_after, model::specs::Server::handle))]
 pub fn serve(words: &mut [u32; WORDS], source: u32, frame: &[u8], out: &mut [u8]) -> Answer
     ensures told { result ≡ (served (shelf_of words.old) source frame.now out.old).answer }
     ensures kept { words.new
@@ -88,18 +90,21 @@ pub fn serve(words: &mut [u32; WORDS], source: u32, frame: &[u8], out: &mut [u8]
 
 // An event report: the phy that it names counts it, and each monitor that crossed is stored; the answer says whether its own
 // addition to an error count was cut (#104). Or it is refused, and the shelf is as it was.
+#[tactic(auto, using(words::proofs::Laying::laid_same), unfolding(model::specs::Reports::event))]
 pub fn event(words: &mut [u32; WORDS], phy: u32, source: u32, amount: u32) -> EventAnswer
     ensures told { result ≡ (event (shelf_of words.old) phy source amount).answer }
     ensures kept { words.new
         ≡ laid_over words.old (event (shelf_of words.old) phy source amount).shelf }
 {
-    event_taken(there(words, phy), source, amount)?;
-    let counted = event_on(source, amount, phy_at(words, phy));
+    let report = Report { source, amount };
+    event_taken(there(words, phy), report)?;
+    let counted = event_on(report, phy_at(words, phy));
     carry_out(words, phy as u8, counted.effect);
     Ok(Counted { cut: counted.cut })
 }
 
 // A link change on a phy, enabled or not: it originates Change, and the change count moves. Or H7.
+#[tactic(auto, using(words::proofs::Laying::laid_same), unfolding(model::specs::Reports::link_change))]
 pub fn link_change(words: &mut [u32; WORDS], phy: u32) -> Taken
     ensures told { result ≡ (link_change (shelf_of words.old) phy).taken }
     ensures kept { words.new
@@ -114,6 +119,7 @@ pub fn link_change(words: &mut [u32; WORDS], phy: u32) -> Taken
 }
 
 // A device notice: reduced functionality, or SES. It has no refusal.
+#[tactic(auto, unfolding(model::specs::Reports::reduced_functionality, model::specs::Reports::ses_notice))]
 pub fn notice(words: &mut [u32; WORDS], notice: Notice)
     ensures { words.new
         ≡ laid_over words.old (noticed (shelf_of words.old) notice) }

@@ -40,12 +40,7 @@ fn send(bytes: &[u8], out: &mut [u8]) -> usize
 
 // The response to a request that is accepted: a read's from the words that it needs, and "Response 4 bytes" of a write.
 #[tactic(auto, unfolding(model::specs::Reply::respond))]
-pub(crate) fn respond(
-    words: &[u32; WORDS],
-    source: u32,
-    request: Request,
-    out: &mut [u8],
-) -> usize
+pub(crate) fn respond(words: &[u32; WORDS], source: u32, request: Request, out: &mut [u8]) -> usize
     requires { least_buffer ≤ length out.old }
     ensures { Sends out.old (respond (shelf_of words.now) source request) result out.new }
 {

@@ -3,7 +3,6 @@ use Rattle.model.specs.Reach.{reach_set}
 use Rattle.model.specs.Tests.{sum_below}
 use Rattle.model.proofs.Laws.Bits.{powers, powers_fit}
 use Rattle.shelf.proofs.Adding.{bit_added}
-use Rattle.server.proofs.Numbers.{number_read}
 use Rattle.server.proofs.reach.reach_set.Invariants.{reached}
 use Rattle.server.proofs.reach.reach_set.Goals as goal
 
@@ -31,4 +30,4 @@ unfolding reach_set
 returns c =
     let done : c.loop-p.p ≡ c.phy_number-number.result = omega arith in
     (rw done at c.loop-p.invariant)
-    ∙ rw (c.phy_number-number.ensures, number_read c.args.words.now, c.row-row.ensures)
+    ∙ rw (c.phy_number-number.ensures, c.number.ensures, c.row-row.ensures)
