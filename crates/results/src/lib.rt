@@ -4,49 +4,50 @@
 
 #![tactic(auto)]
 
-ghost use Rattle.std.specs.Prelude.{◌≡◌};
-ghost use Rattle.model.specs.Results.{count_right, known_operation, check_phy, check_read, check_write};
+ghost use Rattle.std.specs.Prelude.{◌≡◌, Ok, Err};
+ghost use Rattle.model.specs.Results.{count_right, check_phy, check_read, check_write};
 ghost use Rattle.model.specs.Results.{check_kind, check_operation, check_descriptors, check_management};
-ghost use Rattle.model.specs.declared.FunctionResult.TheVariants.{Accepted};
 
-use model::{FunctionResult, Grounds};
+use model::{Failure, FunctionResult, Grounds};
 use writes::descriptors::first_unsupported;
+use writes::operation::PhyOperation;
 
 // Not 04h: "91h and 93h, when bytes 4 and 5 are neither 0000h nor the present count"
+#[tactic(auto, unfolding(model::specs::Results::count_right))]
 fn count_right(on: Grounds, expected: u32) -> bool
     ensures { result ≡ count_right on expected }
 {
-    (expected == 0x0000) | (expected == on.changes as u32)
+    expected == 0x0000 || expected == u32::from(on.changes)
 }
 
 // "10h PHY DOES NOT EXIST", then "Not reached", with its result
-fn check_phy(on: Grounds, unreached: FunctionResult) -> FunctionResult
-    ensures { result ≡ check_phy on unreached Accepted }
+fn check_phy(on: Grounds, unreached: Failure) -> FunctionResult
+    ensures { result ≡ check_phy on (Err unreached) (Ok tt) }
 {
     if !on.there {
-        return FunctionResult::PhyDoesNotExist;
+        return Err(Failure::PhyDoesNotExist);
     }
     if !on.reached {
-        return unreached;
+        return Err(unreached);
     }
-    FunctionResult::Accepted
+    Ok(())
 }
 
 // "16h PHY VACANT for 11h and 14h"
 pub fn check_read(on: Grounds) -> FunctionResult
     ensures { result ≡ check_read on }
 {
-    check_phy(on, FunctionResult::PhyVacant)
+    check_phy(on, Failure::PhyVacant)
 }
 
 // A write up to its contents: 04h, 10h, and "20h SMP ZONE VIOLATION for 91h and 93h"
 fn check_write(on: Grounds, expected: u32) -> FunctionResult
-    ensures { result ≡ check_write on expected Accepted }
+    ensures { result ≡ check_write on expected (Ok tt) }
 {
     if !count_right(on, expected) {
-        return FunctionResult::InvalidExpanderChangeCount;
+        return Err(Failure::InvalidExpanderChangeCount);
     }
-    check_phy(on, FunctionResult::SmpZoneViolation)
+    check_phy(on, Failure::SmpZoneViolation)
 }
 
 // "02h SMP FUNCTION FAILED for a broadcast type above 0Fh (06h)"
@@ -54,9 +55,9 @@ pub fn check_kind(kind: u8) -> FunctionResult
     ensures { result ≡ check_kind kind }
 {
     if 0x0F < kind {
-        return FunctionResult::SmpFunctionFailed;
+        return Err(Failure::SmpFunctionFailed);
     }
-    FunctionResult::Accepted
+    Ok(())
 }
 
 // #101, 21h: "only source group 1 may ask": "result 21h NO MANAGEMENT ACCESS RIGHTS for other sources comes directly after
@@ -65,26 +66,17 @@ pub fn check_management(on: Grounds) -> FunctionResult
     ensures { result ≡ check_management on }
 {
     if !on.management {
-        return FunctionResult::NoManagementAccessRights;
+        return Err(Failure::NoManagementAccessRights);
     }
-    FunctionResult::Accepted
+    Ok(())
 }
 
-// Not 13h: "91h, any operation not named below"
-fn known_operation(operation: u8) -> bool
-    ensures { result ≡ known_operation operation }
-{
-    (operation == 0x00) | (operation == 0x01) | (operation == 0x03) | (operation == 0x05)
-}
-
-// The contents of a 91h: "13h UNKNOWN PHY OPERATION"
+// The contents of a 91h: "13h UNKNOWN PHY OPERATION (91h, any operation not named below)"
 fn check_operation(operation: u8) -> FunctionResult
     ensures { result ≡ check_operation operation }
 {
-    if !known_operation(operation) {
-        return FunctionResult::UnknownPhyOperation;
-    }
-    FunctionResult::Accepted
+    PhyOperation::try_from(operation)?;
+    Ok(())
 }
 
 // The contents of a 93h: "02h SMP FUNCTION FAILED for .. more than four descriptors (93h); then 17h
@@ -93,22 +85,19 @@ fn check_descriptors(frame: &[u8], d: u8) -> FunctionResult
     ensures { result ≡ check_descriptors frame.now d }
 {
     if 4 < d {
-        return FunctionResult::SmpFunctionFailed;
+        return Err(Failure::SmpFunctionFailed);
     }
-    if first_unsupported(frame, d) != d {
-        return FunctionResult::UnknownPhyEventSource;
+    if first_unsupported(frame, d).is_some() {
+        return Err(Failure::UnknownPhyEventSource);
     }
-    FunctionResult::Accepted
+    Ok(())
 }
 
 // A 91h. Its contents are judged only where all before has passed.
 pub fn check_control(on: Grounds, expected: u32, operation: u8) -> FunctionResult
     ensures { result ≡ check_write on expected (check_operation operation) }
 {
-    let so_far = check_write(on, expected);
-    let FunctionResult::Accepted = so_far else {
-        return so_far;
-    };
+    check_write(on, expected)?;
     check_operation(operation)
 }
 
@@ -116,9 +105,6 @@ pub fn check_control(on: Grounds, expected: u32, operation: u8) -> FunctionResul
 pub fn check_configure(on: Grounds, expected: u32, frame: &[u8], d: u8) -> FunctionResult
     ensures { result ≡ check_write on expected (check_descriptors frame.now d) }
 {
-    let all_before = check_write(on, expected);
-    let FunctionResult::Accepted = all_before else {
-        return all_before;
-    };
+    check_write(on, expected)?; // before any source: a stranger would learn from the code what he may not touch
     check_descriptors(frame, d)
 }
