@@ -17,6 +17,7 @@ ghost use Rattle.host.specs.Told.{taken_told, event_told, answer_told, reach_tol
 ghost use Rattle.words.specs.Words.{shelf_of, laid_over, started_words};
 
 use crate::told::{answer_told, event_told, reach_told, taken_told};
+use model::Notice;
 use server::{event, link_change, notice, reach_query, serve, start};
 use words::WORDS;
 
@@ -84,7 +85,7 @@ pub extern "C" fn smp_notice(shelf: &mut [u32; WORDS], ses: bool) -> u32
         ≡ laid_over shelf.old
         (cond ses (ses_notice (shelf_of shelf.old)) (reduced_functionality (shelf_of shelf.old))) }
 {
-    notice(shelf, ses);
+    notice(shelf, if ses { Notice::Ses0 } else { Notice::Expander3 });
     0
 }
 

@@ -1,4 +1,4 @@
-// What C is told, as one number of 32 bits.
+// What C is told, as one number of 32 bits: bit 31 and the number of a house refusal, or the number that stands for the answer.
 ghost use Rattle.std.specs.Prelude.{◌≡◌};
 ghost use Rattle.host.specs.Told.{refused_told, taken_told, event_told, answer_told, reach_told, AnswerFits, ReachFits};
 
@@ -9,27 +9,21 @@ use model::{Answer, EventAnswer, House, Reach, Taken};
 fn refused_told(house: House) -> u32
     ensures { result ≡ refused_told house }
 {
-    0x8000_0000 + (house_number(house) as u32)
+    0x8000_0000 + u32::from(house_number(house))
 }
 
 // A start or a link change: 0 where it is done.
 pub(crate) fn taken_told(taken: Taken) -> u32
     ensures { result ≡ taken_told taken }
 {
-    match taken {
-        Taken::Done => 0,
-        Taken::NotDone(house) => refused_told(house),
-    }
+    taken.map_or_else(refused_told, |()| 0)
 }
 
 // An event report: 0 where it is counted, and 1 where its own addition to an error count was cut (#104).
 pub(crate) fn event_told(answer: EventAnswer) -> u32
     ensures { result ≡ event_told answer }
 {
-    match answer {
-        EventAnswer::Counted { cut } => cut as u32,
-        EventAnswer::NotCounted(house) => refused_told(house),
-    }
+    answer.map_or_else(refused_told, |counted| u32::from(counted.cut))
 }
 
 // A request: the length of the response, which has at most 400 bytes.
@@ -38,8 +32,8 @@ pub(crate) fn answer_told(answer: Answer) -> u32
     ensures { result ≡ answer_told answer }
 {
     match answer {
-        Answer::Response(size) => size as u32,
-        Answer::NoResponse(house) => refused_told(house),
+        Ok(size) => size as u32,
+        Err(house) => refused_told(house),
     }
 }
 
@@ -49,7 +43,7 @@ pub(crate) fn reach_told(reach: Reach) -> u32
     ensures { result ≡ reach_told reach }
 {
     match reach {
-        Reach::Reaches { phys, number } => number * 0x1000000 + phys,
-        Reach::NoReach(house) => refused_told(house),
+        Ok(reached) => reached.number * 0x1000000 + reached.phys,
+        Err(house) => refused_told(house),
     }
 }
