@@ -3,7 +3,7 @@
 -- words; a write has its full effect or none; group 1 is given the list of stored peak events, no other group is, and what is stored
 -- comes with its origination; and that its own addition was cut (#104) is told to an event report exactly if it was, and to nothing else.
 -- Assumes nothing.
-use Rattle.std.specs.Prelude.{Err}
+use Rattle.std.specs.Prelude.{Err, Ok}
 use Prim.Native.Nat.{ℕ, ◌≤◌, ◌<◌}
 use native.Mathlib.Omega.{arith}
 use mathlib.Core.Path.{◌≡◌, refl, sym, ap, ap₂, subst, subst⁻¹, ◌∙◌}

@@ -1,23 +1,40 @@
 -- The interface for Rattle goes as the model does (`Follows`): each promise of `server` says so. Assumes nothing.
 use Prim.Native.Nat.{ℕ}
 use mathlib.Core.Path.{◌≡◌, refl, sym, ap, ◌∙◌}
-use mathlib.Core.Bool.{true, false}
 use mathlib.Core.List.{List, []}
+use Rattle.model.specs.declared.Notice.{Notice}
+use Rattle.model.specs.declared.Notice.TheVariants.{Expander3, Ses0}
 use Rattle.model.specs.declared.Shelf.{Shelf}
 use Rattle.model.specs.Reach.{reach_query}
-use Rattle.model.specs.Reports.{event, link_change, reduced_functionality, ses_notice}
+use Rattle.model.specs.Reports.{event, link_change, reduced_functionality, ses_notice, noticed}
 use Rattle.model.specs.Runs.{Operation, Ask, Event, LinkChange, ReducedFunctionality, Ses, QueryReach, next}
 use Rattle.model.specs.Server.{served, lent_after}
 use Rattle.words.specs.Words.{shelf_of, laid_over, started_words}
 use Rattle.words.proofs.Laying.{laid_same}
-use Rattle.calls.specs.Operations.{ToRequest, ToReport, ToEvent, ToQuery, said, buffer_after, Given, start_of}
+use Rattle.calls.specs.Operations.{ToRequest, ToReport, ToEvent, ToNotice, ToQuery, said, buffer_after, Given, start_of}
 use Rattle.calls.specs.Runs.{Starts}
 use Rattle.calls.specs.Server.{ServerCall, serve_call, event_call, link_change_call, notice_call, reach_query_call}
-use Rattle.calls.specs.Server.{ServerStart, server_seen, server_started, server_interface}
+use Rattle.calls.specs.Server.{ServerStart, notice_asked, server_seen, server_started, server_interface}
 use Rattle.calls.proofs.ManyCalls.{Go}
-use Rattle.calls.proofs.Follows.{Follows, lending, lending_mut, notice_next, notice_said, notice_buffer}
+use Rattle.calls.proofs.Follows.{Follows, lending, lending_mut}
 
 -- ---- each promise
+
+-- a notice goes as the one of the two that is asked for, which tells nothing and has no buffer
+notice_next : (s : Shelf) (n : Notice) → noticed s n ≡ next s (notice_asked n)
+unfolding next
+notice_next s Expander3 = refl
+notice_next s Ses0 = refl
+
+notice_said : (s : Shelf) (n : Notice) → ToNotice ≡ said s (notice_asked n)
+unfolding said
+notice_said s Expander3 = refl
+notice_said s Ses0 = refl
+
+notice_buffer : (s : Shelf) (n : Notice) → [] ≡ buffer_after s (notice_asked n)
+unfolding buffer_after
+notice_buffer s Expander3 = refl
+notice_buffer s Ses0 = refl
 
 server_goes : (call : ServerCall) → Go (λ says. says) (server_seen call)
 unfolding server_seen next served said buffer_after
@@ -87,7 +104,7 @@ server_asks ws (LinkChange p) = (
 server_asks ws ReducedFunctionality = (
   notice_call (record {
     lifetimes = ([], tt);
-    arguments = (lending_mut ws, (false, tt));
+    arguments = (lending_mut ws, (Expander3, tt));
     outcome = record { result = tt; lent = (laid_over ws (reduced_functionality (shelf_of ws)), (tt, tt)); promised = refl };
   }),
   refl,
@@ -96,7 +113,7 @@ server_asks ws ReducedFunctionality = (
 server_asks ws Ses = (
   notice_call (record {
     lifetimes = ([], tt);
-    arguments = (lending_mut ws, (true, tt));
+    arguments = (lending_mut ws, (Ses0, tt));
     outcome = record { result = tt; lent = (laid_over ws (ses_notice (shelf_of ws)), (tt, tt)); promised = refl };
   }),
   refl,

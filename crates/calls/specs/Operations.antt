@@ -1,6 +1,6 @@
 -- What the model says of one operation on a shelf, of every kind of operation alike: what its caller is told, what the lent buffer holds
 -- afterwards, which house refusals there are, and which source group gets it. And the same of a start.
-use Rattle.std.specs.Prelude.{ℕ, Bool, false, List, [], eqb, Err}
+use Rattle.std.specs.Prelude.{ℕ, Bool, false, List, [], eqb, Err, Ok}
 use Rattle.model.specs.declared.Outcome.{Outcome}
 use Rattle.model.specs.declared.Shelf.{Shelf}
 use Rattle.model.specs.Answers.{Answer, EventAnswer, Reach, Taken, told_cut}

@@ -1,6 +1,8 @@
 -- The interface for Rattle: the six functions of `server`, whose answers are the model's own.
-use Rattle.std.specs.Prelude.{cond, []}
-use Rattle.model.specs.Runs.{Ask, Event, LinkChange, ReducedFunctionality, Ses, QueryReach}
+use Rattle.std.specs.Prelude.{[]}
+use Rattle.model.specs.declared.Notice.{Notice}
+use Rattle.model.specs.declared.Notice.TheVariants.{Expander3, Ses0}
+use Rattle.model.specs.Runs.{Operation, Ask, Event, LinkChange, ReducedFunctionality, Ses, QueryReach}
 use Rattle.server.proofs.start
 use Rattle.server.proofs.serve
 use Rattle.server.proofs.event
@@ -21,6 +23,11 @@ pub data ServerCall : Type 0 where
 
 abbrev pub ServerStart : Type 0
 ServerStart = CallOf start.Kinds.ps start.Kinds.r start.Reads.Post
+
+-- which of the two notices is given
+abbrev pub notice_asked : Notice → Operation
+notice_asked Expander3 = ReducedFunctionality
+notice_asked Ses0 = Ses
 
 unfoldable pub server_seen : ServerCall → Asks Said
 server_seen (serve_call c) =
