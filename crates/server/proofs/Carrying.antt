@@ -5,23 +5,19 @@ use Prim.Native.Nat.{ℕ, zero, suc, ◌+◌, ◌≤◌, ◌<◌}
 use native.Mathlib.Numerals.{add-one}
 use native.Mathlib.Omega.{arith}
 use mathlib.Core.Path.{◌≡◌, refl, sym, ap, subst, ◌∙◌}
-use mathlib.Core.Bool.{Bool, cond}
 use mathlib.Core.List.{List, [], ◌∷◌, ◌++◌, map, append-nil}
 use lib.ListN.{length, get_or, take}
 use Rattle.std.proofs.lemmas.List.{take_all}
 use Rattle.model.specs.declared.Effect.{Effect}
 use Rattle.model.specs.declared.Entry.{Entry}
 use Rattle.model.specs.declared.Monitor.{Monitor}
-use Rattle.model.specs.declared.Phy.{Phy}
 use Rattle.model.specs.declared.Shelf.{Shelf}
-use Rattle.model.specs.declared.Store.{Store}
 use Rattle.model.specs.Counting.{originate_if, stored_ones}
 use Rattle.model.specs.Shelf.{entry_of, put, put_store}
 use Rattle.model.specs.Store.{store, store_all, entries_of, carried_out}
 use Rattle.model.proofs.Plain.Store.{store_append}
 use Rattle.words.specs.Sizes.{shelf_words}
 use Rattle.words.specs.Words.{shelf_of, laid_over}
-use Rattle.words.proofs.Pieces.{EntryLow}
 use Rattle.words.proofs.Storing.{Laid, laid_phy, laid_list}
 
 -- the entries of those of some monitors that are there

@@ -24,7 +24,7 @@ pub(crate) fn decide(
         Request::ReportBroadcast { kind } => check_kind(kind),
         Request::ReportPhyErrorLog { phy } => check_read(grounds(words, source, phy)),
         Request::ReportPhyEvent { phy } => check_read(grounds(words, source, phy)),
-        Request::ReportPhyEventList { start: _ } => check_management(grounds(words, source, 0)),
+        Request::ReportPhyEventList { .. } => check_management(grounds(words, source, 0)),
         Request::PhyControl {
             expected,
             phy,
@@ -32,9 +32,9 @@ pub(crate) fn decide(
         } => check_control(grounds(words, source, phy), expected, operation),
         Request::ConfigurePhyEvent {
             expected,
-            clear: _,
             phy,
             number,
+            ..
         } => check_configure(grounds(words, source, phy), expected, frame, number),
     }
 }

@@ -42,21 +42,19 @@ pub(crate) fn take_effect(words: &mut [u32; WORDS], frame: &[u8], request: Reque
         ≡ laid_over words.old (effect (shelf_of words.old) frame.now request) }
 {
     match request {
-        Request::PhyControl {
-            expected: _,
-            phy,
-            operation,
-        } => carry_out(words, phy, controlled(operation, phy_at(words, phy.into()))),
+        Request::PhyControl { phy, operation, .. } => {
+            let done = controlled(operation, phy_at(words, phy.into()));
+            carry_out(words, phy, done);
+        }
         Request::ConfigurePhyEvent {
-            expected: _,
             clear,
             phy,
             number,
-        } => carry_out(
-            words,
-            phy,
-            configured(frame, number, clear, phy_at(words, phy.into())),
-        ),
+            ..
+        } => {
+            let done = configured(frame, number, clear, phy_at(words, phy.into()));
+            carry_out(words, phy, done);
+        }
         _ => {}
     }
 }

@@ -137,12 +137,11 @@ pub fn notice(words: &mut [u32; WORDS], notice: Notice)
 pub fn reach_query(words: &[u32; WORDS], source: u32) -> Reach
     ensures { result ≡ reach_query (shelf_of words.now) source }
 {
-    if 31 < source {
-        return Err(House::SourceGroup);
+    if source <= 31 {
+        let phys = reach_set(words, source);
+        let number = phys.count_ones();
+        Ok(Reached { phys, number })
+    } else {
+        Err(House::SourceGroup)
     }
-    let phys = reach_set(words, source);
-    Ok(Reached {
-        phys,
-        number: phys.count_ones(),
-    })
 }

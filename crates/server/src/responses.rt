@@ -53,24 +53,19 @@ pub(crate) fn respond(words: &[u32; WORDS], source: u32, request: Request, out: 
         Request::ReportManufacturer => send(&report_manufacturer(changes), out),
         Request::ReportBroadcast { kind } => report_broadcast(words, source, kind, out),
         Request::ReportPhyErrorLog { phy } => {
-            let numbers = phy_at(words, phy.into());
-            send(&report_phy_error_log(changes, phy, numbers), out)
+            send(
+                &report_phy_error_log(changes, phy, phy_at(words, phy.into())),
+                out,
+            )
         }
         Request::ReportPhyEvent { phy } => {
-            let numbers = phy_at(words, phy.into());
-            send(&report_phy_event(changes, phy, numbers), out)
+            send(
+                &report_phy_event(changes, phy, phy_at(words, phy.into())),
+                out,
+            )
         }
         Request::ReportPhyEventList { start } => report_phy_event_list(words, start, out),
-        Request::PhyControl {
-            expected: _,
-            phy: _,
-            operation: _,
-        } => send_result(0x91, Ok(()), out),
-        Request::ConfigurePhyEvent {
-            expected: _,
-            clear: _,
-            phy: _,
-            number: _,
-        } => send_result(0x93, Ok(()), out),
+        Request::PhyControl { .. } => send_result(0x91, Ok(()), out),
+        Request::ConfigurePhyEvent { .. } => send_result(0x93, Ok(()), out),
     }
 }

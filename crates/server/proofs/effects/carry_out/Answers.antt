@@ -1,5 +1,5 @@
 -- `server::effects::carry_out` meets its contract, by the law of `Carrying`. Assumes nothing.
-use Rattle.std.proofs.Common.{◌≡◌, ◌<◌, ◌≤◌, length, arith}
+use Rattle.std.proofs.Common.{arith}
 use Rattle.server.proofs.Carrying.{carry_begin, carry_none, carry_one, carry_end}
 use Rattle.server.proofs.effects.carry_out.Goals.{in-Some, in_default}
 use Rattle.server.proofs.effects.carry_out.Goals as goal
