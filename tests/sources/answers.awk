@@ -26,11 +26,12 @@ function told(    found, decided, i) {
 }
 FNR == 1 { file++ }
 file == 1 && /^pub fn / { of = substr($3, 1, index($3, "(") - 1) }
-file == 1 && match($0, /0x[0-9A-F][0-9A-F] <= source/) {
-    kind[++ranges] = of
-    low[ranges] = number(substr($0, RSTART + 2, 2))
-    match($0, /source <= 0x[0-9A-F][0-9A-F]/)
-    high[ranges] = number(substr($0, RSTART + 12, 2))
+file == 1 {
+    for (rest = $0; match(rest, /0x[0-9A-F][0-9A-F]\.\.=0x[0-9A-F][0-9A-F]/); rest = substr(rest, RSTART + RLENGTH)) {
+        kind[++ranges] = of
+        low[ranges] = number(substr(rest, RSTART + 2, 2))
+        high[ranges] = number(substr(rest, RSTART + 9, 2))
+    }
 }
 file == 2 && /^[0-9A-F][0-9A-F]h$/ { told(); code = $0; result = small = value = large = ""; reports = 0 }
 file == 2 { answer = substr($0, index($0, " -> ") + 4) }
