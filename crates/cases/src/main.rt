@@ -5,9 +5,9 @@
 
 #![tactic(auto)]
 
-mod print;
 mod request;
 mod run;
+mod told;
 
 use run::run_line;
 use script::shelf_w::shelf_w;
@@ -20,15 +20,8 @@ use words::WORDS;
 fn run_script(rt: &impl Print, script: &[u8]) -> io::Result<()> {
     let mut words = [0u32; WORDS];
     shelf_w(&mut words);
-    let mut from = 0;
-    for i in 0..script.len() {
-        if script[i] == b'\n' {
-            run_line(rt, &mut words, &script[from..i])?;
-            from = i + 1;
-        }
-    }
-    if from < script.len() {
-        run_line(rt, &mut words, &script[from..])?;
+    for line in script.split_inclusive(|&byte| byte == b'\n') {
+        run_line(rt, &mut words, line.strip_suffix(b"\n").unwrap_or(line))?;
     }
     Ok(())
 }

@@ -1,67 +1,66 @@
 // Running a line of the script.
-use crate::print::{print_counted, print_house, print_unreadable};
 use crate::request::run_request;
-use model::{EventAnswer, Reach};
+use crate::told::Told;
+use model::{Counted, Reached};
 use script::line::{Line, line_kind};
-use script::report::{ReportLine, make_times, read_report};
+use script::report::{make_times, read_report};
 use script::shelf_w::shelf_w;
-use script::text::{Reading, read, unread};
+use script::text::{Reading, read, read_whole, unread};
 use server::reach_query;
-use spelling::set_text;
 use std::io;
 use words::WORDS;
 
 // `event on phy 2, source 2Dh, amount 12`, `65534 times: link change on phy 0` and the like
-fn run_report(
-    rt: &impl Print,
-    words: &mut [u32; WORDS],
-    line: &[u8],
-    from: Reading,
-) -> io::Result<()> {
-    match read_report(line, from) {
-        ReportLine::Makes { times, report } => match make_times(words, report, times) {
-            EventAnswer::Counted { cut } => print_counted(rt, cut),
-            EventAnswer::NotCounted(house) => print_house(rt, house),
-        },
-        ReportLine::NoReport => print_unreadable(rt),
+fn run_report(words: &mut [u32; WORDS], line: &[u8], from: Reading) -> Option<Told<'static>> {
+    let said = read_report(line, from)?;
+    match make_times(words, said.report, said.times) {
+        Ok(Counted { cut }) => Some(Told::Done { cut }),
+        Err(house) => Some(Told::Refused(house)),
     }
 }
 
-// `reach of 8`: the set of phys, and how many they are.
-fn run_reach(rt: &impl Print, words: &[u32; WORDS], line: &[u8], from: Reading) -> io::Result<()> {
-    let group = read(line, from, b"reach of #");
-    if !group.whole {
-        return print_unreadable(rt);
-    }
+// `reach of 8`
+fn run_reach(words: &[u32; WORDS], line: &[u8], from: Reading) -> Option<Told<'static>> {
+    let group = read_whole(line, from, b"reach of #")?;
     match reach_query(words, group.third) {
-        Reach::Reaches { phys, number } => {
-            let text = set_text(phys);
-            rt.write_all(&text)?;
-            rt.println(number)
-        }
-        Reach::NoReach(house) => print_house(rt, house),
+        Ok(Reached { phys, number }) => Some(Told::Reached { phys, number }),
+        Err(house) => Some(Told::Refused(house)),
     }
 }
 
-// Begins the answer to an operation: after the line, an arrow. Gives the reading past the two spaces
-// before the operation.
-fn begin_answer(rt: &impl Print, line: &[u8]) -> io::Result<Reading> {
-    rt.write_all(b" ->")?;
-    Ok(read(line, unread(), b"  "))
+// Runs an operation, which stands after two spaces, if it can be read.
+fn run_operation<'a>(
+    words: &mut [u32; WORDS],
+    kind: Line,
+    line: &[u8],
+    buffer: &'a mut [u8],
+) -> Option<Told<'a>> {
+    let from = read(line, unread(), b"  ")?;
+    match kind {
+        Line::Request => run_request(words, line, from, buffer),
+        Line::Reach => run_reach(words, line, from),
+        _ => run_report(words, line, from),
+    }
 }
 
 // Runs one line on the shelf in these words, and writes it with what it came to. A heading starts shelf W afresh.
+// The buffer of a request is full of EEh, which is in no stored response, so a byte that the server did
+// not write would show.
 pub(crate) fn run_line(rt: &impl Print, words: &mut [u32; WORDS], line: &[u8]) -> io::Result<()> {
     rt.write_all(line)?;
     match line_kind(line) {
         Line::Heading => {
-            rt.write_all(b"\n")?;
             shelf_w(words);
-            Ok(())
+            rt.write_all(b"\n")
         }
-        Line::Request => run_request(rt, words, line, begin_answer(rt, line)?),
-        Line::Reach => run_reach(rt, words, line, begin_answer(rt, line)?),
-        Line::Report => run_report(rt, words, line, begin_answer(rt, line)?),
         Line::Idle => rt.write_all(b"\n"),
+        kind => {
+            rt.write_all(b" ->")?;
+            let mut buffer = [0xEEu8; 2048];
+            match run_operation(words, kind, line, &mut buffer) {
+                Some(told) => rt.print(told),
+                None => rt.write_all(b" ?\n"),
+            }
+        }
     }
 }

@@ -4,49 +4,54 @@ use Prim.Native.Nat.{ℕ, suc, ◌+◌, ◌-◌, ◌<◌, ◌≤◌}
 use native.Mathlib.Numerals.{add-one}
 use native.Mathlib.Omega.{arith}
 use mathlib.Core.Path.{◌≡◌}
-use mathlib.Core.Bool.{true, false}
 use mathlib.Core.List.{List}
-use lib.Dec.{ltb}
 use lib.ListN.{length, drop, get_or, drop_of_length-le}
 use lib.Seq.{drop-cons}
+use Rattle.std.specs.Prelude.{None, Some}
 use Rattle.script.specs.declared.report.Report.{Report}
-use Rattle.script.specs.declared.text.Number.{Number}
 use Rattle.script.specs.declared.text.Reading.{Reading}
 use Rattle.script.specs.Report.{Made, make_report, make_more}
-use Rattle.script.specs.Text.{digit, longer, digits, read_one, read_each}
+use Rattle.script.specs.Text.{digit, longer, digits, read_number, read_one, read}
 
-module _ (line : List ℕ) (base value end : ℕ) where
-  abbrev number : Number
-  number = record { value = value; end = end }
-
+module _ (base : ℕ) (bytes : List ℕ) (value n i : ℕ) where
   -- a digit is read
-  pub digits_turn : (d : ℕ) → end < length line → d ≡ digit (get_or line end 0) → ltb d base ≡ true
-      → digits base (drop end line) value end ≡ digits base (drop (end + 1) line) (longer value base d) (end + 1)
+  pub digits_turn : (d : ℕ) → i < length bytes → digit base (get_or bytes i 0) ≡ Some d
+      → digits base (drop i bytes) value n ≡ digits base (drop (i + 1) bytes) (longer value base d) (n + 1)
   unfolding digits
-  digits_turn d h e taken = rw (drop-cons line end 0 h, ← e, taken, add-one)
+  digits_turn d h is = rw (drop-cons bytes i 0 h, is, add-one i)
 
   -- another byte ends the number
-  pub digits_stop : (d : ℕ) → end < length line → d ≡ digit (get_or line end 0) → ltb d base ≡ false
-      → digits base (drop end line) value end ≡ number
+  pub digits_stop : i < length bytes → digit base (get_or bytes i 0) ≡ None
+      → digits base (drop i bytes) value n ≡ record { value = value; length = n }
   unfolding digits
-  digits_stop d h e left = rw (drop-cons line end 0 h, ← e, left)
+  digits_stop h is = rw (drop-cons bytes i 0 h, is)
 
-  -- so does the end of the line
-  pub digits_end : length line ≤ end → digits base (drop end line) value end ≡ number
+  -- so does the end of the bytes
+  pub digits_end : length bytes ≤ i → digits base (drop i bytes) value n ≡ record { value = value; length = n }
   unfolding digits
-  digits_end h = rw (drop_of_length-le line h)
+  digits_end h = rw (drop_of_length-le bytes h)
 
--- a byte of the form is read by
-pub read_turn : (line : List ℕ) (next : Reading) (form : List ℕ) (i : ℕ) → i < length form
-    → read_each line next (drop i form) ≡ read_each line (read_one line next (get_or form i 0)) (drop (i + 1) form)
-unfolding read_each
-read_turn line next form i h = rw (drop-cons form i 0 h, add-one)
+-- there is no number past the end of the line
+pub number_past : (line : List ℕ) (from : Reading) (base : ℕ) → length line ≤ from.at → read_number line from base ≡ None
+unfolding read_number digits
+number_past line from base h = rw (drop_of_length-le line h)
 
--- the form is read to its end
-pub read_end : (line : List ℕ) (next : Reading) (form : List ℕ) (i : ℕ) → i ≡ length form
-    → read_each line next (drop i form) ≡ next
-unfolding read_each
-read_end line next form i e = rw (drop_of_length-le form {i = i} (omega arith))
+module _ (line : List ℕ) (next : Reading) (form : List ℕ) (i : ℕ) where
+  -- a byte of the form is read by
+  pub read_turn : (after : Reading) → i < length form → read_one line next (get_or form i 0) ≡ Some after
+      → read line next (drop i form) ≡ read line after (drop (i + 1) form)
+  unfolding read
+  read_turn after h is = rw (drop-cons form i 0 h, is, add-one)
+
+  -- what stands there is not as the form has it
+  pub read_stop : i < length form → read_one line next (get_or form i 0) ≡ None → read line next (drop i form) ≡ None
+  unfolding read
+  read_stop h is = rw (drop-cons form i 0 h, is)
+
+  -- the form is read to its end
+  pub read_end : length form ≤ i → read line next (drop i form) ≡ Some next
+  unfolding read
+  read_end h = rw (drop_of_length-le form h)
 
 -- a report is made once more
 pub make_turn : (before : Made) (report : Report) (times done : ℕ) → done < times

@@ -10,6 +10,7 @@ use Rattle.script.proofs.report.make_times
 use Rattle.script.proofs.shelf_w.shelf_w
 use Rattle.script.proofs.text.unread
 use Rattle.script.proofs.text.read
+use Rattle.script.proofs.text.read_whole
 
 pub line_kind_settled : Settled line_kind.Kinds.ps line_kind.Kinds.r line_kind.Reads.Pre line_kind.Reads.Post
 line_kind_settled = value_settles _ _ _ (λ κs a x y. refl)
@@ -42,3 +43,6 @@ unread_settled = value_settles _ _ _ (λ κs a x y. refl)
 
 pub read_settled : Settled read.Kinds.ps read.Kinds.r read.Reads.Pre read.Reads.Post
 read_settled = value_settles _ _ _ (λ κs a x y. refl)
+
+pub read_whole_settled : Settled read_whole.Kinds.ps read_whole.Kinds.r read_whole.Reads.Pre read_whole.Reads.Post
+read_whole_settled = value_settles _ _ _ (λ κs a x y. refl)

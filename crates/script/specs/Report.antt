@@ -1,5 +1,6 @@
 -- The reports of a script.
-use Rattle.std.specs.Prelude.{ℕ, zero, suc, false, cond, List, Ok}
+use Rattle.std.specs.Prelude.{ℕ, zero, suc, false, List, Option, Some, is_some, option_map, unwrap_or, Ok}
+use Rattle.std.specs.Option.{option_or}
 use Rattle.model.specs.declared.EventOutcome.{EventOutcome}
 use Rattle.model.specs.declared.Outcome.{Outcome}
 use Rattle.model.specs.declared.Shelf.{Shelf}
@@ -11,42 +12,33 @@ use Rattle.words.specs.Words.{shelf_of, laid_over}
 use Rattle.script.specs.declared.report.Report.{Report}
 use Rattle.script.specs.declared.report.Report.TheVariants.{Event, LinkChange, ReducedFunctionality, SesNotice}
 use Rattle.script.specs.declared.report.ReportLine.{ReportLine}
-use Rattle.script.specs.declared.report.ReportLine.TheVariants.{Makes, NoReport}
 use Rattle.script.specs.declared.text.Reading.{Reading}
-use Rattle.script.specs.Text.{reading, read}
+use Rattle.script.specs.Text.{reading, read, read_whole}
 
 -- how many times, which may be left out, as the last number
 unfoldable pub read_times : List ℕ → Reading → Reading
-read_times line from =
-    let told = read line from (text "# times: ") in
-    cond told.fits told
-    (reading from.at from.fits from.whole from.first from.second 1)
+read_times line from = unwrap_or (read line from (text "# times: ")) (reading from.at from.first from.second 1)
 
--- The forms of a report, each to the end of the line. They are tried in the order event, link change, reduced functionality, SES; each
--- definition is one form, and then what is left to try.
-unfoldable pub ses_after : List ℕ → Reading → ReportLine
-ses_after line start =
-    let ses = read line start (text "SES notice") in
-    given ses.whole (Makes start.third SesNotice) NoReport
+-- the forms of a report, each to the end of the line
+unfoldable pub read_event : List ℕ → Reading → Option Report
+read_event line start =
+    option_map (λ event. Event event.first event.second event.third)
+    (read_whole line start (text "event on phy #, source $h, amount #"))
 
-unfoldable pub reduced_after : List ℕ → Reading → ReportLine
-reduced_after line start =
-    let reduced = read line start (text "notice of reduced functionality") in
-    given reduced.whole (Makes start.third ReducedFunctionality) (ses_after line start)
+unfoldable pub read_link_change : List ℕ → Reading → Option Report
+read_link_change line start = option_map (λ link. LinkChange link.third) (read_whole line start (text "link change on phy #"))
 
-unfoldable pub link_after : List ℕ → Reading → ReportLine
-link_after line start =
-    let link = read line start (text "link change on phy #") in
-    given link.whole (Makes start.third (LinkChange link.third)) (reduced_after line start)
+unfoldable pub read_notice : List ℕ → Reading → Option Report
+read_notice line start =
+    given (is_some (read_whole line start (text "notice of reduced functionality"))) (Some ReducedFunctionality)
+    (option_map (λ _. SesNotice) (read_whole line start (text "SES notice")))
 
--- the report that stands after how many times
-unfoldable pub report_after : List ℕ → Reading → ReportLine
-report_after line start =
-    let event = read line start (text "event on phy #, source $h, amount #") in
-    given event.whole (Makes start.third (Event event.first event.second event.third)) (link_after line start)
-
-abbrev pub read_report : List ℕ → Reading → ReportLine
-read_report line from = report_after line (read_times line from)
+-- the report after how many times; the forms are tried in the order event, link change, reduced functionality, SES
+unfoldable pub read_report : List ℕ → Reading → Option ReportLine
+read_report line from =
+    let start = read_times line from in
+    option_map (λ report. record { times = start.third; report = report })
+    (option_or (option_or (read_event line start) (read_link_change line start)) (read_notice line start))
 
 -- What a report comes to: what is told, in the form of an event report's answer, and the words afterwards.
 pub record Made : Type 0 where

@@ -1,67 +1,67 @@
 -- Reading a line of a script by a form: # stands for a decimal number, $ for a hexadecimal one, any other byte for itself.
-use Rattle.std.specs.Prelude.{ℕ, ◌+◌, ◌-◌, ◌*◌, min, Bool, true, false, ◌&&◌, cond, List, [], ◌∷◌, leb, ltb, eqb, length, drop, get_or}
-use Rattle.model.specs.Tests.{within}
+use Rattle.std.specs.Prelude.{ℕ, ◌+◌, ◌-◌, ◌*◌, min, ◌&&◌, cond, List, [], ◌∷◌, leb, ltb, eqb, length, drop, get_or, Option, None, Some}
+use Rattle.std.specs.Option.{option_and_then, option_map_or}
+use Rattle.model.specs.Tests.{within, given}
 use Rattle.script.specs.declared.text.Number.{Number}
 use Rattle.script.specs.declared.text.Reading.{Reading}
 
-abbrev pub reading : ℕ → Bool → Bool → ℕ → ℕ → ℕ → Reading
-reading at fits whole first second third =
-    record { at = at; fits = fits; whole = whole; first = first; second = second; third = third }
+abbrev pub reading : ℕ → ℕ → ℕ → ℕ → Reading
+reading at first second third = record { at = at; first = first; second = second; third = third }
 
 -- nothing is read yet
 abbrev pub unread : Reading
-unread = reading 0 true false 0 0 0
+unread = reading 0 0 0 0
 
--- the value of a digit in uppercase; 255 is no digit's
-unfoldable pub digit : ℕ → ℕ
-digit b = cond (within 0x30 0x39 b) (b - 0x30) (cond (within 0x41 0x46 b) (b - 0x41 + 10) 255)
+-- the value, if a digit of the base has it
+abbrev pub below : ℕ → ℕ → Option ℕ
+below base value = given (ltb value base) (Some value) None
+
+-- the value of a digit of a base, in uppercase; no other byte has one
+unfoldable pub digit : ℕ → ℕ → Option ℕ
+digit base b = cond (within 0x30 0x39 b) (below base (b - 0x30)) (cond (within 0x41 0x46 b) (below base (b - 0x41 + 10)) None)
 
 -- a number of 32 bits; what is larger counts as the largest
 abbrev pub capped : ℕ → ℕ
 capped n = min n 0xFFFFFFFF
 
--- a number of base 10 or 16 with one more digit
-unfoldable pub longer : ℕ → ℕ → ℕ → ℕ
-longer value base d = cond (eqb base 16) (capped (value * 16 + d)) (capped (value * 10 + d))
+-- a number of a base with one more digit
+abbrev pub longer : ℕ → ℕ → ℕ → ℕ
+longer value base d = capped (value * base + d)
 
--- reads digits up to the first byte that is none, on from a value and its end
+-- reads digits up to the first byte that is none, on from a value and how many were read
 unfoldable pub digits : ℕ → List ℕ → ℕ → ℕ → Number
-digits base [] value end = record { value = value; end = end }
-digits base (b ∷ bytes) value end =
-    cond (ltb (digit b) base)
-    (digits base bytes (longer value base (digit b)) (end + 1))
-    (record { value = value; end = end })
+digits base [] value length = record { value = value; length = length }
+digits base (b ∷ bytes) value length =
+    option_map_or (λ d. digits base bytes (longer value base d) (length + 1)) (digit base b)
+    (record { value = value; length = length })
 
 -- reads a number, of at least one digit
-unfoldable pub read_number : List ℕ → Reading → ℕ → Reading
+unfoldable pub read_number : List ℕ → Reading → ℕ → Option Reading
 read_number line from base =
-    let number = digits base (drop from.at line) 0 from.at in
-    reading number.end (from.fits && ltb from.at number.end) false
-    from.second from.third number.value
+    let number = digits base (drop from.at line) 0 0 in
+    given (eqb number.length 0) None
+    (Some (reading (from.at + number.length) from.second from.third number.value))
 
 -- reads this very byte
-unfoldable pub read_byte : List ℕ → Reading → ℕ → Reading
+unfoldable pub read_byte : List ℕ → Reading → ℕ → Option Reading
 read_byte line from byte =
-    cond (ltb from.at (length line))
-    (reading (from.at + 1) (from.fits && eqb (get_or line from.at 0) byte) from.whole
-    from.first from.second from.third)
-    (reading from.at false from.whole from.first from.second from.third)
+    given (ltb from.at (length line) && eqb (get_or line from.at 0) byte)
+    (Some (reading (from.at + 1) from.first from.second from.third))
+    None
 
 -- reads what one byte of a form stands for
-unfoldable pub read_one : List ℕ → Reading → ℕ → Reading
+unfoldable pub read_one : List ℕ → Reading → ℕ → Option Reading
 read_one line from form =
     cond (eqb form 0x23) (read_number line from 10)
     (cond (eqb form 0x24) (read_number line from 16)
     (read_byte line from form))
 
 -- reads by each byte of a form in turn
-unfoldable pub read_each : List ℕ → Reading → List ℕ → Reading
-read_each line from [] = from
-read_each line from (one ∷ form) = read_each line (read_one line from one) form
+unfoldable pub read : List ℕ → Reading → List ℕ → Option Reading
+read line from [] = Some from
+read line from (one ∷ form) = option_and_then (λ next. read line next form) (read_one line from one)
 
--- a reading with the test whether the line ends there
-abbrev pub ended : List ℕ → Reading → Reading
-ended line r = reading r.at r.fits (r.fits && leb (length line) r.at) r.first r.second r.third
-
-unfoldable pub read : List ℕ → Reading → List ℕ → Reading
-read line from form = ended line (read_each line from form)
+-- .. and to the end of the line
+abbrev pub read_whole : List ℕ → Reading → List ℕ → Option Reading
+read_whole line from form =
+    option_and_then (λ next. given (leb (length line) next.at) (Some next) None) (read line from form)

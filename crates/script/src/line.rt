@@ -22,8 +22,7 @@ pub enum Line {
 pub fn line_kind(line: &[u8]) -> Line
     ensures { result ≡ line_kind line.now }
 {
-    let remark = read(line, unread(), b"  - ");
-    if (line.len() == 0) | remark.fits {
+    if line.is_empty() || read(line, unread(), b"  - ").is_some() {
         return Line::Idle;
     }
     if byte_at(line, 0) != b' ' {
@@ -36,27 +35,42 @@ pub fn line_kind(line: &[u8]) -> Line
     }
 }
 
-// Reads `from 8:` or `from 1, buffer of 1027:`: the source group and the length of the lent buffer, which
-// is the least that H5 allows where it is left out, as the last two numbers.
-pub fn read_asked(line: &[u8], from: Reading) -> Reading
-    ensures { result ≡ read_asked line.now from }
-{
-    let source = read(line, from, b"from #");
-    let told = read(line, source, b", buffer of #:");
-    if told.fits {
-        return told;
-    }
-    let mut untold = read(line, source, b":");
-    untold.second = untold.third;
-    untold.third = LEAST_BUFFER as u32;
-    untold
+// What a request's line asks: the source group, the length of the lent buffer, and the reading past them.
+#[derive(Clone, Copy)]
+pub struct Asked {
+    pub source: u32,
+    pub room: usize,
+    pub after: Reading,
 }
 
-// Reads one byte of a frame, as the last number.
-pub fn read_hex(line: &[u8], from: Reading) -> Reading
+// Reads `from 8:` or `from 1, buffer of 1027:`. The length of the lent buffer is the least that H5 allows
+// where it is left out.
+#[tactic(auto, unfolding(crate::specs::Line::read_asked, crate::specs::Line::read_asked_of))]
+pub fn read_asked(line: &[u8], from: Reading) -> Option<Asked>
+    ensures { result ≡ read_asked line.now from }
+{
+    let source = read(line, from, b"from #")?;
+    if let Some(told) = read(line, source, b", buffer of #:") {
+        return Some(Asked {
+            source: source.third,
+            room: told.third as usize,
+            after: told,
+        });
+    }
+    let untold = read(line, source, b":")?;
+    Some(Asked {
+        source: source.third,
+        room: LEAST_BUFFER,
+        after: untold,
+    })
+}
+
+// Reads one byte of a frame, and gives the reading past it too.
+#[tactic(auto, unfolding(crate::specs::Line::read_hex))]
+pub fn read_hex(line: &[u8], from: Reading) -> Option<(u8, Reading)>
     ensures { result ≡ read_hex line.now from }
 {
-    let mut next = read(line, from, b" $");
-    next.fits = next.fits & (next.third <= 0xFF);
-    next
+    let next = read(line, from, b" $")?;
+    let byte = u8::try_from(next.third).ok()?;
+    Some((byte, next))
 }

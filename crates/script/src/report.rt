@@ -1,10 +1,11 @@
 // The reports of a script: events, link changes and notices, once or many times.
 ghost use Rattle.std.specs.Prelude.{◌≡◌};
-ghost use Rattle.script.specs.Report.{read_times, read_report, make_report, make_times};
+ghost use Rattle.script.specs.Report.{read_times, read_event, read_link_change, read_notice, read_report};
+ghost use Rattle.script.specs.Report.{make_report, make_times};
 
-use crate::text::{Reading, read};
+use crate::text::{Reading, read, read_whole};
 use counters::report::event_answer;
-use model::EventAnswer;
+use model::{Counted, EventAnswer, Notice};
 use server::{event, link_change, notice};
 use words::WORDS;
 
@@ -16,11 +17,11 @@ pub enum Report {
     SesNotice,
 }
 
-// What a line of a report comes to: the report and how many times it is made, or none that could be read.
+// What a line of a report says: the report, and how many times it is made.
 #[derive(Clone, Copy)]
-pub enum ReportLine {
-    Makes { times: u32, report: Report },
-    NoReport,
+pub struct ReportLine {
+    pub times: u32,
+    pub report: Report,
 }
 
 // Reads how many times, which may be left out, as the last number.
@@ -28,55 +29,55 @@ pub enum ReportLine {
 fn read_times(line: &[u8], from: Reading) -> Reading
     ensures { result ≡ read_times line.now from }
 {
-    let told = read(line, from, b"# times: ");
-    if told.fits {
-        return told;
+    let once = Reading { third: 1, ..from };
+    read(line, from, b"# times: ").unwrap_or(once)
+}
+
+#[tactic(auto, unfolding(crate::specs::Report::read_event))]
+fn read_event(line: &[u8], start: Reading) -> Option<Report>
+    ensures { result ≡ read_event line.now start }
+{
+    let event = read_whole(line, start, b"event on phy #, source $h, amount #")?;
+    Some(Report::Event {
+        phy: event.first,
+        source: event.second,
+        amount: event.third,
+    })
+}
+
+#[tactic(auto, unfolding(crate::specs::Report::read_link_change))]
+fn read_link_change(line: &[u8], start: Reading) -> Option<Report>
+    ensures { result ≡ read_link_change line.now start }
+{
+    let link = read_whole(line, start, b"link change on phy #")?;
+    Some(Report::LinkChange { phy: link.third })
+}
+
+#[tactic(auto, unfolding(crate::specs::Report::read_notice))]
+fn read_notice(line: &[u8], start: Reading) -> Option<Report>
+    ensures { result ≡ read_notice line.now start }
+{
+    if read_whole(line, start, b"notice of reduced functionality").is_some() {
+        return Some(Report::ReducedFunctionality);
     }
-    let mut once = from;
-    once.third = 1;
-    once
+    read_whole(line, start, b"SES notice")?;
+    Some(Report::SesNotice)
 }
 
 // Reads a report to the end of the line: `event on phy 2, source 2Dh, amount 12`,
 // `65534 times: link change on phy 0` and the like.
-pub fn read_report(line: &[u8], from: Reading) -> ReportLine
+#[tactic(auto, unfolding(crate::specs::Report::read_report))]
+pub fn read_report(line: &[u8], from: Reading) -> Option<ReportLine>
     ensures { result ≡ read_report line.now from }
 {
     let start = read_times(line, from);
-    let times = start.third;
-    let event = read(line, start, b"event on phy #, source $h, amount #");
-    if event.whole {
-        return ReportLine::Makes {
-            times,
-            report: Report::Event {
-                phy: event.first,
-                source: event.second,
-                amount: event.third,
-            },
-        };
-    }
-    let link = read(line, start, b"link change on phy #");
-    if link.whole {
-        return ReportLine::Makes {
-            times,
-            report: Report::LinkChange { phy: link.third },
-        };
-    }
-    let reduced = read(line, start, b"notice of reduced functionality");
-    if reduced.whole {
-        return ReportLine::Makes {
-            times,
-            report: Report::ReducedFunctionality,
-        };
-    }
-    let ses = read(line, start, b"SES notice");
-    if ses.whole {
-        return ReportLine::Makes {
-            times,
-            report: Report::SesNotice,
-        };
-    }
-    ReportLine::NoReport
+    let report = read_event(line, start)
+        .or_else(|| read_link_change(line, start))
+        .or_else(|| read_notice(line, start))?;
+    Some(ReportLine {
+        times: start.third,
+        report,
+    })
 }
 
 // Makes a report on the shelf in these words. What is told has the form of an event report's answer: a link change and a
@@ -94,12 +95,12 @@ fn make_report(words: &mut [u32; WORDS], report: Report) -> EventAnswer
         } => event(words, phy, source, amount),
         Report::LinkChange { phy } => event_answer(link_change(words, phy), false),
         Report::ReducedFunctionality => {
-            notice(words, false);
-            EventAnswer::Counted { cut: false }
+            notice(words, Notice::Expander3);
+            Ok(Counted { cut: false })
         }
         Report::SesNotice => {
-            notice(words, true);
-            EventAnswer::Counted { cut: false }
+            notice(words, Notice::Ses0);
+            Ok(Counted { cut: false })
         }
     }
 }
@@ -110,7 +111,7 @@ pub fn make_times(words: &mut [u32; WORDS], report: Report, times: u32) -> Event
     ensures told { result ≡ (make_times words.old report times).answer }
     ensures kept { words.new ≡ (make_times words.old report times).words }
 {
-    let mut told = EventAnswer::Counted { cut: false };
+    let mut told = Ok(Counted { cut: false });
     for _ in 0..times {
         told = make_report(words, report);
     }

@@ -7,16 +7,13 @@ ghost use Rattle.words.specs.Words.{words_of};
 use server::start;
 use words::WORDS;
 
-// Starts shelf W in these words. The groups past the phy number are ignored; "row 1 is all ones; row 0 has
+// Starts shelf W in these words, which is not refused. The groups past the phy number are ignored; "row 1 is all ones; row 0 has
 // bit 1 alone", or the table would not be legal.
 pub fn shelf_w(words: &mut [u32; WORDS])
     ensures { words.new ≡ words_of shelf_w }
 {
     let mut groups = [0u32; 24];
-    groups[0] = 8;
-    groups[1] = 8;
-    groups[2] = 9;
-    groups[3] = 1;
+    groups[..4].copy_from_slice(&[8, 8, 9, 1]);
     let mut table = [0x0000_0002u32; 32];
     table[1] = 0xFFFF_FFFF;
     table[8] = 0x0000_0102;
@@ -27,5 +24,6 @@ pub fn shelf_w(words: &mut [u32; WORDS])
         groups,
         table,
         [0x01, 0x02, 0x03, 0x04, 0x05, 0x06, 0x07, 0x08],
-    );
+    )
+    .unwrap();
 }

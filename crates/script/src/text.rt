@@ -1,29 +1,25 @@
 // Reading a line of the script by a form.
 //
 // In a form # stands for a decimal number and $ for a hexadecimal one; any other byte stands for
-// itself. A reading goes on from an earlier one, and once something was not as the form has it, what
-// follows does not fit either, so only the last reading is tested.
-ghost use Rattle.std.specs.Prelude.{◌≡◌, drop};
-ghost use Rattle.script.specs.Text.{unread, digit, capped, longer, digits};
-ghost use Rattle.script.specs.Text.{read_number, read_byte, read_one, read};
+// itself. A reading goes on from an earlier one; where something is not as the form has it, there is none.
+ghost use Rattle.std.specs.Prelude.{◌≡◌, ◌≤◌, drop, length};
+ghost use Rattle.script.specs.Text.{unread, digit, longer, digits};
+ghost use Rattle.script.specs.Text.{read_number, read_byte, read_one, read, read_whole};
 
-// How far a line has been read; whether all so far was as the forms have it (`fits`); whether, at the end
-// of a form, the line ends there too (`whole`); and the last three numbers, the latest as `third`.
+// How far a line has been read, and the last three numbers, the latest as `third`.
 #[derive(Clone, Copy)]
 pub struct Reading {
     pub at: usize,
-    pub fits: bool,
-    pub whole: bool,
     pub first: u32,
     pub second: u32,
     pub third: u32,
 }
 
-// Digits that were read: the number, and the place after the last of them.
+// Digits that were read: the number, and how many they are.
 #[derive(Clone, Copy)]
 struct Number {
     value: u32,
-    end: usize,
+    length: usize,
 }
 
 // Nothing is read yet.
@@ -32,95 +28,84 @@ pub fn unread() -> Reading
 {
     Reading {
         at: 0,
-        fits: true,
-        whole: false,
         first: 0,
         second: 0,
         third: 0,
     }
 }
 
-// The value of a digit in uppercase; 255 is no digit's.
+// The value of a digit of this base, in uppercase.
 #[tactic(auto, unfolding(crate::specs::Text::digit))]
-fn digit(byte: u8) -> u8
-    ensures { result ≡ digit byte }
+fn digit(byte: u8, base: u32) -> Option<u32>
+    ensures { result ≡ digit base byte }
 {
-    match byte {
-        b'0'..=b'9' => byte - b'0',
-        b'A'..=b'F' => byte - b'A' + 10,
-        _ => 255,
-    }
+    let value = match byte {
+        b'0'..=b'9' => (byte - b'0') as u32,
+        b'A'..=b'F' => (byte - b'A') as u32 + 10,
+        _ => return None,
+    };
+    (value < base).then_some(value)
 }
 
-// A number of 32 bits; what is larger counts as the largest.
-fn capped(number: u64) -> u32
-    ensures { result ≡ capped number }
-{
-    if number < 0xFFFF_FFFF {
-        number as u32
-    } else {
-        0xFFFF_FFFF
-    }
-}
-
-// A number of base 10 or 16 with one more digit.
-#[tactic(auto, unfolding(crate::specs::Text::longer))]
-fn longer(value: u32, base: u8, digit: u8) -> u32
+// A number of this base with one more digit, in 32 bits; what is larger counts as the largest.
+fn longer(value: u32, base: u32, digit: u32) -> u32
     ensures { result ≡ longer value base digit }
 {
-    if base == 16 {
-        return capped(value as u64 * 16 + digit as u64);
-    }
-    capped(value as u64 * 10 + digit as u64)
+    value.saturating_mul(base).saturating_add(digit)
 }
 
 // Reads digits of base 10 or 16, up to the first byte that is none.
-fn digits(line: &[u8], at: usize, base: u8) -> Number
-    ensures { result ≡ digits base (drop at line.now) 0 at }
+#[tactic(auto, using(crate::proofs::Left::digits_turn, crate::proofs::Left::digits_stop, crate::proofs::Left::digits_end))]
+fn digits(bytes: &[u8], base: u32) -> Number
+    ensures read { result ≡ digits base bytes.now 0 0 }
+    ensures within { result.length ≤ length bytes.now }
 {
     let mut value = 0;
-    let mut end = at;
-    while end < line.len() && digit(line[end]) < base {
-        value = longer(value, base, digit(line[end]));
-        end = end + 1;
+    let mut length = 0;
+    for &byte in bytes {
+        let Some(digit) = digit(byte, base) else {
+            break;
+        };
+        value = longer(value, base, digit);
+        length += 1;
     }
-    Number { value, end }
+    Number { value, length }
 }
 
 // Reads a number, of at least one digit.
-#[tactic(auto, unfolding(crate::specs::Text::read_number))]
-fn read_number(line: &[u8], from: Reading, base: u8) -> Reading
+#[tactic(auto, using(crate::proofs::Left::number_past), unfolding(crate::specs::Text::read_number))]
+fn read_number(line: &[u8], from: Reading, base: u32) -> Option<Reading>
     ensures { result ≡ read_number line.now from base }
 {
-    let number = digits(line, from.at, base);
-    Reading {
-        at: number.end,
-        fits: from.fits & (from.at < number.end),
-        whole: false,
+    let number = digits(line.get(from.at..)?, base);
+    if number.length == 0 {
+        return None;
+    }
+    Some(Reading {
+        at: from.at + number.length,
         first: from.second,
         second: from.third,
         third: number.value,
-    }
+    })
 }
 
 // Reads this very byte.
 #[tactic(auto, unfolding(crate::specs::Text::read_byte))]
-fn read_byte(line: &[u8], from: Reading, byte: u8) -> Reading
+fn read_byte(line: &[u8], from: Reading, byte: u8) -> Option<Reading>
     ensures { result ≡ read_byte line.now from byte }
 {
-    let mut next = from;
-    let at = from.at;
-    next.fits = false;
-    if at < line.len() {
-        next.at = at + 1;
-        next.fits = from.fits & (line[at] == byte);
+    if *line.get(from.at)? != byte {
+        return None;
     }
-    next
+    Some(Reading {
+        at: from.at + 1,
+        ..from
+    })
 }
 
 // Reads what one byte of a form stands for.
 #[tactic(auto, unfolding(crate::specs::Text::read_one))]
-fn read_one(line: &[u8], from: Reading, form: u8) -> Reading
+fn read_one(line: &[u8], from: Reading, form: u8) -> Option<Reading>
     ensures { result ≡ read_one line.now from form }
 {
     match form {
@@ -131,13 +116,20 @@ fn read_one(line: &[u8], from: Reading, form: u8) -> Reading
 }
 
 // Reads on by a form.
-pub fn read(line: &[u8], from: Reading, form: &[u8]) -> Reading
+#[tactic(auto, using(crate::proofs::Left::read_turn, crate::proofs::Left::read_stop, crate::proofs::Left::read_end))]
+pub fn read(line: &[u8], from: Reading, form: &[u8]) -> Option<Reading>
     ensures { result ≡ read line.now from form.now }
 {
     let mut next = from;
-    for i in 0..form.len() {
-        next = read_one(line, next, form[i]);
+    for &one in form {
+        next = read_one(line, next, one)?;
     }
-    next.whole = next.fits & (line.len() <= next.at);
-    next
+    Some(next)
+}
+
+// Reads on by a form to the end of the line.
+pub fn read_whole(line: &[u8], from: Reading, form: &[u8]) -> Option<Reading>
+    ensures { result ≡ read_whole line.now from form.now }
+{
+    read(line, from, form).filter(|next| line.len() <= next.at)
 }

@@ -22,6 +22,7 @@ fn changes_after(words: &[u32; WORDS], change: bool) -> u16
 }
 
 // The phy is put, "Change also moves the change count the same way", and then what is stored (#101) is stored in monitor order.
+#[inline(always)]
 pub(crate) fn carry_out(words: &mut [u32; WORDS], phy: u8, done: Effect)
     ensures { words.new
         ≡ laid_over words.old (carried_out (shelf_of words.old) phy done) }

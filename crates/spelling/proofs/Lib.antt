@@ -1,6 +1,6 @@
--- Facts of the bytes that a text begins with.
-pub mod Front
+-- What the holes of a format in hexadecimal write.
+pub mod Hexadecimal
 -- The text of a house refusal.
-pub mod HouseText
--- Each public promise settles its outcome.
+pub mod HouseTexts
+-- What each type prints is settled.
 pub mod Settled

@@ -1,3 +1,2 @@
 -- What the functions of this crate give.
-pub mod Part
 pub mod Spelling

@@ -1,15 +1,13 @@
 -- How answers are spelled: each after a space.
 use Rattle.std.specs.Prelude.{ℕ, ◌+◌, ◌-◌, ◌/◌, ◌%◌, cond, List, [], ◌∷◌, ◌++◌, leb, take}
+use Rattle.std.specs.Fmt.{decimal}
+use Rattle.std.specs.List.{flat_map}
 use Rattle.model.specs.declared.House.{House}
 use Rattle.model.specs.House.{house_number}
 
 -- the digit of a value below 16, in uppercase; `?` stands for any other
 unfoldable pub hex_digit : ℕ → ℕ
 hex_digit v = cond (leb v 9) (0x30 + v) (cond (leb v 15) (0x41 + (v - 10)) 0x3F)
-
--- a number below 100 in decimal, without a needless 0
-unfoldable pub decimal : ℕ → List ℕ
-decimal n = cond (leb n 9) (hex_digit n ∷ []) (hex_digit (n / 10) ∷ hex_digit (n % 10) ∷ [])
 
 -- a house refusal, as H4 or H10, and a newline
 abbrev pub house_text : House → List ℕ
@@ -31,11 +29,10 @@ set_text n =
     ∷ 0x20
     ∷ []
 
--- each byte as two digits after a space
-unfoldable pub bytes_text : List ℕ → List ℕ
-bytes_text [] = []
-bytes_text (b ∷ bytes) = 0x20 ∷ hex_digit (b / 16) ∷ hex_digit (b % 16) ∷ bytes_text bytes
+-- a byte as two digits after a space
+abbrev pub byte_text : ℕ → List ℕ
+byte_text b = 0x20 ∷ hex_digit (b / 16) ∷ hex_digit (b % 16) ∷ []
 
--- a response, of which there is room for 1,364 bytes, and a newline
-unfoldable pub response_text : List ℕ → List ℕ
-response_text response = bytes_text (take 1364 response) ++ (0x0A ∷ [])
+-- a response, of which at most 1,364 bytes are spelled, and a newline
+abbrev pub response_text : List ℕ → List ℕ
+response_text response = flat_map byte_text (take 1364 response) ++ (0x0A ∷ [])

@@ -18,5 +18,8 @@ started_w : (before : List ℕ) {after : List ℕ} → after ≡ started_words b
 unfolding shelf_w
 started_w before kept = kept ∙ done_words before (start 4 groups_w table_w identifier_w) done_w
 
+pub unwrap-requires : goal.unwrap-requires
+unwrap-requires c = rw (rw c.copy_from_slice.ensures.after at c.start.ensures.told, done_w) refl
+
 pub returns : goal.returns
-returns c = started_w _ c.start.ensures.kept
+returns c = started_w _ (rw c.copy_from_slice.ensures.after at c.start.ensures.kept)
