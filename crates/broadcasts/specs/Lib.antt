@@ -1,2 +1,3 @@
 -- What the functions of this crate promise, beside the model's definitions.
 pub mod Listed
+pub mod Grows

@@ -22,7 +22,8 @@ fn read_frame<'a>(line: &[u8], from: Reading, room: &'a mut [u8]) -> Option<&'a 
     room.get(..length)
 }
 
-// `from 8: 40 14 00 ..`, `from 1, buffer of 1027: 40 ..`. The response stands in the lent part of the buffer.
+// `from 8: 40 14 00 ..`, `from 1, buffer of 1027: 40 ..`. The response stands in the lent part of the buffer,
+// and is never longer than it.
 pub(crate) fn run_request<'a>(
     words: &mut [u32; WORDS],
     line: &[u8],

@@ -58,6 +58,7 @@ fn crossed(report: Report, before: Monitor) -> Option<Monitor>
 }
 
 // .. and which of the four are. A report on a counting source changes no peak, and so takes none anywhere.
+#[tactic(auto, using(crate::proofs::Crossings::none_crossed))]
 fn all_crossed(report: Report, monitors: [Monitor; 4]) -> [Option<Monitor>; 4]
     ensures { result ≡ marked (crossings report.source report.amount monitors) (map (counted report.source report.amount) monitors) }
 {
@@ -68,6 +69,7 @@ fn all_crossed(report: Report, monitors: [Monitor; 4]) -> [Option<Monitor>; 4]
 }
 
 // ".. originates Expander 1h, once per monitor": the count afterwards
+// (The fold asks each place itself: with `flatten` or `filter` before it the proof did not close.)
 fn originate_each(crossed: [Option<Monitor>; 4], count: u16) -> u16
     ensures { result ≡ originate_times (length (stored_ones crossed)) count }
 {
@@ -82,6 +84,7 @@ fn originate_each(crossed: [Option<Monitor>; 4], count: u16) -> u16
 }
 
 // The four error counts after a report, and whether its own addition to one of them was cut (#104).
+// (A flag beside the counts, and no Option: where the addition was cut there are counts too.)
 #[derive(Clone, Copy)]
 struct ErrorsAdded {
     errors: [u32; 4],
@@ -105,6 +108,7 @@ fn add_error(report: Report, mut errors: [u32; 4]) -> ErrorsAdded
 }
 
 // What an event report does to its phy, and whether its own addition to an error count was cut (#104).
+// (A flag beside the effect, and no Option: where the addition was cut there is an effect too.)
 #[derive(Clone, Copy)]
 pub struct EventDone {
     pub effect: Effect,
@@ -113,7 +117,7 @@ pub struct EventDone {
 
 // An event report, on the phy that it names. #101: "Each origination of Expander 1h stores the monitor that crossed, in
 // monitor order if several do, with its new value".
-#[tactic(auto, unfolding(model::specs::Counting::event_on))]
+#[tactic(auto, using(model::proofs::Plain::Counting::stored_marked), unfolding(model::specs::Counting::event_on))]
 pub fn event_on(report: Report, before: Phy) -> EventDone
     ensures done { result.effect ≡ event_on report.source report.amount before }
     ensures cut { result.cut ≡ error_cut report.source report.amount before.errors }

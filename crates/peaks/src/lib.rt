@@ -1,8 +1,8 @@
 // 21h, #101: the list of stored peak events, "oldest first". How many entries a start is given is worked out by
 // numbers; they are then written into the lent buffer as they are read from the shelf's words, each where it stands.
 //
-// `report_phy_event_list` asks nothing of its caller. The functions that it rests on are private: they ask for room, and
-// for no more descriptors than there can be, which are 32.
+// `report_phy_event_list` asks nothing of its caller. The functions that it rests on are private: they have the front of the
+// buffer, where there is room for any response, and ask for no more descriptors than there can be, which are 32.
 
 #![tactic(auto)]
 
@@ -22,13 +22,13 @@ use words::WORDS;
 use words::read::{changes, count, entry_at, last};
 
 // How many entries are kept: none where no index was stored, and 32 at most.
-fn kept(words: &[u32; WORDS]) -> u8
+fn kept(words: &[u32; WORDS]) -> u16
     ensures { result ≡ kept (shelf_of words.now).store }
 {
     if last(words) == 0x0000 {
         return 0;
     }
-    count(words).min(32) as u8
+    count(words).min(32) as u16
 }
 
 // How far before the last index a start is: "Indexes run from 0001h and go from FFFFh to 0001h."
@@ -44,7 +44,7 @@ fn far(last: u16, start: u16) -> u16
 
 // How many entries a start is given: "A start of 0000h .. none"; one that is stored, those from it to the newest; one that
 // is not, all.
-fn number_returned(words: &[u32; WORDS], start: u16) -> u8
+fn number_returned(words: &[u32; WORDS], start: u16) -> u16
     ensures { result ≡ length (returned (shelf_of words.now).store start) }
 {
     if start == 0x0000 {
@@ -52,22 +52,19 @@ fn number_returned(words: &[u32; WORDS], start: u16) -> u8
     }
     let kept = kept(words);
     let before = far(last(words), start);
-    if before < kept as u16 {
-        before as u8 + 1
-    } else {
-        kept
-    }
+    // `min` would say the same, and not which of the two starts it is
+    if before < kept { before + 1 } else { kept }
 }
 
 // The index of the first of the last n entries, and 0000h where there is none.
-fn first_index(last: u16, n: u8) -> u16
+fn first_index(last: u16, n: u16) -> u16
     requires { n ≤ 32 }
     ensures { result ≡ first_of last n }
 {
     if n == 0 {
         return 0x0000;
     }
-    let before = n as u16 - 1;
+    let before = n - 1;
     if before < last {
         last - before
     } else {
@@ -76,32 +73,24 @@ fn first_index(last: u16, n: u8) -> u16
 }
 
 // One entry of the list, as descriptor n.
-fn list(out: &mut [u8; LEAST_BUFFER], n: u8, e: Entry)
+fn list(out: &mut [u8; LEAST_BUFFER], n: usize, e: Entry)
     requires { n ≤ 31 }
     ensures { Lists entry_list out.old n (e ∷ []) (n + 1) out.new }
 {
-    let at = 12 + 12 * (n as usize);
+    let at = 12 + 12 * n;
     out[at..at + 12].copy_from_slice(&entry_descriptor(e));
 }
 
-// Where entry i of the last n stands, "oldest first": they stand in a row that goes round, and end before the place of the
-// next store.
-fn place_of(stores: u32, n: u8, i: u8) -> u32
-    requires { (n ≤ 32) × (i < n) }
-    ensures { result ≡ (stores % 32 + (32 - n) + i) % 32 }
-{
-    (stores % 32 + (32 - n as u32) + i as u32) % 32
-}
-
-// The last n entries: "The list runs in stored order to the newest."
-fn list_last(words: &[u32; WORDS], n: u8, out: &mut [u8; LEAST_BUFFER])
+// The last n entries: "The list runs in stored order to the newest." The entries stand in a row that goes round, and end before
+// the place of the next store.
+fn list_last(words: &[u32; WORDS], n: u16, out: &mut [u8; LEAST_BUFFER])
     requires { n ≤ kept (shelf_of words.now).store }
     ensures { Lists entry_list out.old 0 (drop (kept (shelf_of words.now).store - n) (entries (shelf_of words.now).store))
         n out.new }
 {
-    let stores = count(words);
-    for i in 0..n {
-        list(out, i, entry_at(words, place_of(stores, n, i)));
+    let end = count(words) % 32 + 32;
+    for (i, place) in (end - n as u32..end).enumerate() {
+        list(out, i, entry_at(words, place % 32));
     }
 }
 
@@ -131,6 +120,7 @@ fn event_list_head(changes: u16, first: u16, last: u16, n: u8) -> [u8; 12]
 }
 
 // The response to 21h, where there is room for it. Gives its length.
+#[tactic(auto, using(model::proofs::Plain::EventList::returned_few))]
 fn send(words: &[u32; WORDS], start: u16, out: &mut [u8; LEAST_BUFFER]) -> usize
     ensures { Sent out.old
         (report_phy_event_list (shelf_of words.now).changes (shelf_of words.now).store start)
@@ -139,7 +129,8 @@ fn send(words: &[u32; WORDS], start: u16, out: &mut [u8; LEAST_BUFFER]) -> usize
     let n = number_returned(words, start);
     list_last(words, n, out);
     let last = last(words);
-    out[..12].copy_from_slice(&event_list_head(changes(words), first_index(last, n), last, n));
+    let first = first_index(last, n);
+    out[..12].copy_from_slice(&event_list_head(changes(words), first, last, n as u8));
     12 + 12 * (n as usize)
 }
 

@@ -20,17 +20,18 @@ line_kind line =
     (given (eqb (byte line 2) 0x72) Reach
     Report)))
 
--- the source group, the length of the lent buffer, which is the least that H5 allows where it is left out, and the reading past
--- them
+-- what a request's line asks, and the reading past it
 abbrev pub asked : ℕ → ℕ → Reading → Asked
 asked source room after = record { source = source; room = room; after = after }
 
+-- past the source group: the length of the lent buffer, which is the least that H5 allows where it is left out
 unfoldable pub read_asked_of : List ℕ → Reading → Option Asked
 read_asked_of line source =
     option_map_or (λ told. Some (asked source.third told.third told))
     (read line source (text ", buffer of #:"))
     (option_map (asked source.third least_buffer) (read line source (text ":")))
 
+-- the source group, the length of the lent buffer, and the reading past them
 unfoldable pub read_asked : List ℕ → Reading → Option Asked
 read_asked line from = option_and_then (read_asked_of line) (read line from (text "from #"))
 

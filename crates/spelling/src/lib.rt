@@ -43,7 +43,8 @@ fn at_most(n: usize, bytes: &[u8]) -> &[u8]
     &bytes[..bytes.len().min(n)]
 }
 
-// The bytes of a response in hexadecimal, and a newline after the last; from 1,365 bytes on the rest is left out.
+// The bytes of a response in hexadecimal, and a newline after the last. A response has at most 400 bytes; that from
+// 1,365 bytes on the rest is left out is a promise that may not change.
 #[derive(Clone, Copy)]
 pub struct ResponseText<'a>(pub &'a [u8]);
 

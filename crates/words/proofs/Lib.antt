@@ -4,6 +4,8 @@
 pub mod Low
 pub mod Blocks
 pub mod Pieces
+-- an array made by a closure
+pub mod Made
 -- where a piece stands, and what storing a piece or a whole shelf comes to
 pub mod Reading
 pub mod Laying

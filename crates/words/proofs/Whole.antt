@@ -1,10 +1,10 @@
 -- A fresh shelf written over its words: one phy after another, and then the words before them. Assumes nothing.
-use Prim.Native.Nat.{ℕ, zero, suc, ◌+◌, ◌≤◌, ◌<◌}
+use Prim.Native.Nat.{ℕ, ◌+◌, ◌≤◌, ◌<◌}
 use native.Mathlib.Nat.{zero-add}
 use native.Mathlib.Omega.{arith}
 use mathlib.Core.Path.{◌≡◌, refl, sym, ap, ◌∙◌}
-use mathlib.Core.List.{List, [], ◌∷◌, ◌++◌, map, append_assoc, append-nil}
-use lib.ListN.{length, get_or, take, drop, set, replicate, length-append, drop_of_length-le}
+use mathlib.Core.List.{List, [], ◌∷◌, ◌++◌, map, append_assoc}
+use lib.ListN.{length, get_or, take, drop, replicate, length-append}
 use lib.Seq.{sets, sets-eq, drop_at, length-take-le}
 use Rattle.model.specs.Bytes.{byte}
 use Rattle.model.specs.Shelf.{no_phy, fresh_phy, start_group, fresh_phys, fresh_store, fresh_shelf}
@@ -14,17 +14,6 @@ use Rattle.words.specs.Sizes.{first_row, first_phy, store_last, shelf_words}
 use Rattle.words.specs.Words.{phys_over, entries_over, store_over, eight, front_over, laid_over, words_of}
 use Rattle.words.proofs.Blocks.{row_laid_size}
 use Rattle.words.proofs.Pieces.{phy_block}
-
--- One zero more: where the first i words are 0, so is then the one at place i.
-pub zeros_more : (ws : List ℕ) (i : ℕ) → i < length ws
-    → set (replicate i 0 ++ drop i ws) i 0 ≡ replicate (suc i) 0 ++ drop (suc i) ws
-zeros_more [] i h = absurd (omega arith)
-zeros_more (w ∷ ws) zero h = refl
-zeros_more (w ∷ ws) (suc i) h = ap (λ others. 0 ∷ others) (zeros_more ws i (omega arith))
-
--- all of them
-pub zeros_all : (ws : List ℕ) (n : ℕ) → length ws ≡ n → replicate n 0 ++ drop n ws ≡ replicate n 0
-zeros_all ws n e = rw (drop_of_length-le ws {i = n} (omega arith)) (append-nil (replicate n 0))
 
 -- what values stored from a place on leave there
 sets_from : (ws values : List ℕ) (at : ℕ) → at + length values ≤ length ws

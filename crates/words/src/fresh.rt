@@ -7,23 +7,12 @@ ghost use Rattle.words.specs.Sizes.{first_phy, shelf_words};
 ghost use Rattle.words.specs.Words.{phys_over, eight, words_of};
 
 use crate::store::{store, store_phy};
-use crate::{FIRST_PHY, FIRST_ROW, PHY_WORDS, WORDS};
+use crate::{CHANGES, FIRST_PHY, FIRST_ROW, IDENTIFIER, NUMBER, PHY_WORDS, WORDS};
 use shelf::phys::fresh_phy;
 use shelf::start::start_group;
 
-// Makes every word 0.
-fn clear(words: &mut [u32])
-    requires { length words.old ≡ shelf_words }
-    ensures { words.new ≡ replicate shelf_words 0 }
-{
-    for i in 0..WORDS {
-        words[i] = 0;
-    }
-}
-
 // Writes the words of the fresh phys over those that are there, each at its place.
-fn lay_phys(words: &mut [u32], number: u32, groups: [u32; 24])
-    requires { length words.old ≡ shelf_words }
+fn lay_phys(words: &mut [u32; WORDS], number: u32, groups: [u32; 24])
     ensures { words.new ≡ sets words.old first_phy (phys_over words.old (fresh_phys number groups)) }
 {
     for p in 0..24u32 {
@@ -36,25 +25,15 @@ fn lay_phys(words: &mut [u32], number: u32, groups: [u32; 24])
 fn device_words(number: u32, identifier: [u8; 8]) -> [u32; FIRST_ROW]
     ensures { result ≡ number ∷ 0x0001 ∷ 0 ∷ 0 ∷ map (byte identifier) eight }
 {
-    [
-        number,
-        0x0001,
-        0,
-        0,
-        identifier[0] as u32,
-        identifier[1] as u32,
-        identifier[2] as u32,
-        identifier[3] as u32,
-        identifier[4] as u32,
-        identifier[5] as u32,
-        identifier[6] as u32,
-        identifier[7] as u32,
-    ]
+    let mut device = [0; FIRST_ROW];
+    device[NUMBER] = number;
+    device[CHANGES] = 0x0001;
+    device[IDENTIFIER..].copy_from_slice(&identifier.map(u32::from));
+    device
 }
 
 // Writes the words before the phys: the device wide ones, and the 32 rows.
-fn lay_front(words: &mut [u32], device: [u32; FIRST_ROW], table: [u32; 32])
-    requires { length words.old ≡ shelf_words }
+fn lay_front(words: &mut [u32; WORDS], device: [u32; FIRST_ROW], table: [u32; 32])
     ensures { words.new ≡ device ++ table ++ drop first_phy words.old }
 {
     store(words, 0, &device);
@@ -72,8 +51,7 @@ pub fn lay_fresh(
     ensures { words.new ≡ words_of (fresh_shelf number groups table identifier) }
 {
     let device = device_words(number, identifier);
-    let all: &mut [u32] = words;
-    clear(all);
-    lay_phys(all, number, groups);
-    lay_front(all, device, table);
+    words.fill(0);
+    lay_phys(words, number, groups);
+    lay_front(words, device, table);
 }

@@ -17,7 +17,9 @@ pub mod store;
 const MONITOR_WORDS: usize = 3;
 
 // a phy: its group, enabled or not and four error counts, then its four monitors, then its three broadcast counts
-const PHY_MONITORS: usize = 6;
+const PHY_ERRORS: usize = 2;
+
+const PHY_MONITORS: usize = PHY_ERRORS + 4;
 
 const PHY_COUNTS: usize = PHY_MONITORS + 4 * MONITOR_WORDS;
 
@@ -26,8 +28,8 @@ const PHY_WORDS: usize = PHY_COUNTS + 3;
 // an entry of the list of stored peak events: its phy, then its monitor
 const ENTRY_WORDS: usize = 1 + MONITOR_WORDS;
 
-// the shelf: what is device wide, then 32 rows, then 24 phys, then the list of stored peak events (the last index, how many
-// stores there were, 32 entries)
+// the shelf: what is device wide (the phy number, the change count, Expander 3h, SES 0h, the eight bytes of the identifier),
+// then 32 rows, then 24 phys, then the list of stored peak events (the last index, how many stores there were, 32 entries)
 const NUMBER: usize = 0;
 
 const CHANGES: usize = 1;

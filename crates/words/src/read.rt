@@ -1,23 +1,31 @@
 // Pieces of the shelf, read out of its words.
-ghost use Rattle.std.specs.Prelude.{◌≡◌, ◌+◌, ◌*◌, ◌%◌, ◌≤◌};
-ghost use Rattle.model.specs.Shelf.{phy_at, no_entry};
+ghost use Rattle.std.specs.Prelude.{◌≡◌, ◌+◌, ◌*◌, ◌%◌, ◌<◌, ◌≤◌};
+ghost use Rattle.model.specs.Shelf.{phy_at};
 ghost use Rattle.model.specs.Store.{entry_at};
 ghost use Rattle.model.specs.Zone.{row};
 ghost use Rattle.words.specs.Sizes.{monitor_words, phy_words, entry_words, shelf_words};
 ghost use Rattle.words.specs.Words.{monitor_of, monitors_of, phy_of, entry_from, shelf_of};
 
 use crate::{
-    CHANGES, ENTRY_WORDS, EXPANDER3, FIRST_ENTRY, FIRST_PHY, FIRST_ROW, MONITOR_WORDS, NUMBER,
-    PHY_COUNTS, PHY_MONITORS, PHY_WORDS, SES0, STORE_COUNT, STORE_LAST, WORDS,
+    CHANGES, ENTRY_WORDS, EXPANDER3, FIRST_ENTRY, FIRST_PHY, FIRST_ROW, IDENTIFIER, MONITOR_WORDS,
+    NUMBER, PHY_COUNTS, PHY_ERRORS, PHY_MONITORS, PHY_WORDS, SES0, STORE_COUNT, STORE_LAST, WORDS,
 };
 use model::{Entry, Monitor, Phy};
 use shelf::phys::fresh_phy;
+
+// A number in the low bits of its word, below SIZE. The bits above are not read.
+fn low<const SIZE: u32>(word: u32) -> u32
+    requires { 0 < SIZE }
+    ensures { result ≡ word % SIZE }
+{
+    word % SIZE
+}
 
 // a number of 16 bits, in the low bits of its word
 pub fn low16(word: u32) -> u16
     ensures { result ≡ word % 0x10000 }
 {
-    (word % 0x10000) as u16
+    low::<0x10000>(word) as u16
 }
 
 // The phy number.
@@ -58,7 +66,7 @@ fn monitor(words: &[u32; WORDS], at: usize) -> Monitor
     ensures { result ≡ monitor_of words.now at }
 {
     Monitor {
-        source: (words[at] % 0x100) as u8,
+        source: low::<0x100>(words[at]) as u8,
         value: words[at + 1],
         threshold: words[at + 2],
     }
@@ -69,15 +77,7 @@ fn monitors(words: &[u32; WORDS], at: usize) -> [Monitor; 4]
     requires { at + 4 * monitor_words ≤ shelf_words }
     ensures { result ≡ monitors_of words.now at }
 {
-    let second = at + MONITOR_WORDS;
-    let third = second + MONITOR_WORDS;
-    let fourth = third + MONITOR_WORDS;
-    [
-        monitor(words, at),
-        monitor(words, second),
-        monitor(words, third),
-        monitor(words, fourth),
-    ]
+    std::array::from_fn(|i| monitor(words, at + MONITOR_WORDS * i))
 }
 
 // The phy whose words begin at a place.
@@ -88,12 +88,12 @@ fn phy(words: &[u32; WORDS], at: usize) -> Phy
     let counts = at + PHY_COUNTS;
     Phy {
         group: words[at],
-        enabled: words[at + 1] % 2 == 1,
-        errors: [words[at + 2], words[at + 3], words[at + 4], words[at + 5]],
+        enabled: low::<2>(words[at + 1]) == 1,
+        errors: std::array::from_fn(|i| words[at + PHY_ERRORS + i]),
         monitors: monitors(words, at + PHY_MONITORS),
-        change0: (words[counts] % 0x10000) as u16,
-        expander1: (words[counts + 1] % 0x10000) as u16,
-        expander2: (words[counts + 2] % 0x10000) as u16,
+        change0: low16(words[counts]),
+        expander1: low16(words[counts + 1]),
+        expander2: low16(words[counts + 2]),
     }
 }
 
@@ -117,27 +117,11 @@ pub fn row(words: &[u32; WORDS], g: u32) -> u32
     words[FIRST_ROW + (g as usize)]
 }
 
-// a number of 8 bits, in the low bits of its word
-fn low8(word: u32) -> u8
-    ensures { result ≡ word % 0x100 }
-{
-    (word % 0x100) as u8
-}
-
 // The enclosure identifier, byte by byte.
 pub fn identifier(words: &[u32; WORDS]) -> [u8; 8]
     ensures { result ≡ (shelf_of words.now).identifier }
 {
-    [
-        low8(words[4]),
-        low8(words[5]),
-        low8(words[6]),
-        low8(words[7]),
-        low8(words[8]),
-        low8(words[9]),
-        low8(words[10]),
-        low8(words[11]),
-    ]
+    std::array::from_fn(|i| low::<0x100>(words[IDENTIFIER + i]) as u8)
 }
 
 // The last index of the list of stored peak events, "0000h if none".
@@ -162,23 +146,8 @@ fn entry(words: &[u32; WORDS], at: usize) -> Entry
     ensures { result ≡ entry_from words.now at }
 {
     Entry {
-        phy: low8(words[at]),
+        phy: low::<0x100>(words[at]) as u8,
         monitor: monitor(words, at + 1),
-    }
-}
-
-// What stands where there is no entry.
-fn no_entry() -> Entry
-    ensures { result ≡ no_entry }
-{
-    let fresh = Monitor {
-        source: 0x00,
-        value: 0,
-        threshold: 0,
-    };
-    Entry {
-        phy: 0,
-        monitor: fresh,
     }
 }
 
@@ -187,7 +156,8 @@ pub fn entry_at(words: &[u32; WORDS], i: u32) -> Entry
     ensures { result ≡ entry_at (shelf_of words.now).store i }
 {
     if 32 <= i {
-        return no_entry();
+        // where there is no entry stands one of 0 throughout
+        return Entry::default();
     }
     entry(words, FIRST_ENTRY + ENTRY_WORDS * (i as usize))
 }

@@ -1,91 +1,81 @@
 // Pieces of the shelf, put back into its words.
-ghost use Rattle.std.specs.Prelude.{◌≡◌, cond, ◌+◌, ◌*◌, ◌≤◌, length};
+ghost use Rattle.std.specs.Prelude.{◌≡◌, ◌+◌, ◌*◌, ◌^◌, ◌<◌, ◌≤◌, length};
+ghost use Rattle.std.specs.List.{flat_map};
 ghost use Rattle.std.proofs.lemmas.List.Edits.{sets};
 ghost use Rattle.model.specs.Shelf.{entry_of, put, put_device, put_store};
 ghost use Rattle.model.specs.Store.{count_on, store};
-ghost use Rattle.words.specs.Sizes.{monitor_words, phy_monitors, phy_words, entry_words};
+ghost use Rattle.words.specs.Sizes.{monitor_words, phy_monitors, phy_words, entry_words, shelf_words};
 ghost use Rattle.words.specs.Words.{low_set, monitor_over, monitors_over, head_over, counts_over, phy_over, entry_over};
 ghost use Rattle.words.specs.Words.{shelf_of, laid_over};
 
 use crate::read::low16;
 use crate::{
-    ENTRY_WORDS, FIRST_ENTRY, FIRST_PHY, MONITOR_WORDS, PHY_COUNTS, PHY_MONITORS, PHY_WORDS,
-    STORE_COUNT, STORE_LAST, WORDS,
+    CHANGES, ENTRY_WORDS, EXPANDER3, FIRST_ENTRY, FIRST_PHY, MONITOR_WORDS, PHY_COUNTS,
+    PHY_MONITORS, PHY_WORDS, SES0, STORE_COUNT, STORE_LAST, WORDS,
 };
 use counters::counts::originate;
 use model::{Monitor, Phy};
 
-// a word with another bit in its lowest place
-fn set_low1(word: u32, b: bool) -> u32
-    ensures { result ≡ low_set 2 word (cond b 1 0) }
+// A word with another number, below SIZE, in its low bits: 1 bit where SIZE is 2, 8 where it is 0x100, 16 where it is 0x10000.
+// The bits above stay.
+fn set_low<const SIZE: u32>(word: u32, number: u32) -> u32
+    requires size { 0 < SIZE }
+    requires fits { low_set SIZE word number < 2 ^ 32 }
+    ensures { result ≡ low_set SIZE word number }
 {
-    if b {
-        word / 2 * 2 + 1
-    } else {
-        word / 2 * 2 + 0
-    }
-}
-
-// a word with another number of 8 bits in its low bits
-fn set_low8(word: u32, n: u8) -> u32
-    ensures { result ≡ low_set 0x100 word n }
-{
-    word / 0x100 * 0x100 + (n as u32)
+    word / SIZE * SIZE + number
 }
 
 // a word with another number of 16 bits in its low bits
-fn set_low16(word: u32, n: u16) -> u32
-    ensures { result ≡ low_set 0x10000 word n }
+fn set_low16(word: u32, number: u16) -> u32
+    ensures { result ≡ low_set 0x10000 word number }
 {
-    word / 0x10000 * 0x10000 + (n as u32)
+    set_low::<0x10000>(word, number.into())
 }
 
+// That the words of a piece end inside the shelf's stays asked of each function here and in `read`: of a type that kept it, each
+// part (a phy's monitors, one of these, an entry's monitor) would have to be made anew, with as much to show at each.
+
 // The first words of a phy, over those that begin at a place: its group, enabled or not, its four error counts.
-fn head_over(words: &[u32], at: usize, numbers: Phy) -> [u32; PHY_MONITORS]
-    requires { at + phy_monitors ≤ length words.now }
+fn head_over(words: &[u32; WORDS], at: usize, numbers: Phy) -> [u32; PHY_MONITORS]
+    requires { at + phy_monitors ≤ shelf_words }
     ensures { result ≡ head_over words.now at numbers }
 {
-    let errors = numbers.errors;
-    let enabled = set_low1(words[at + 1], numbers.enabled);
-    [
-        numbers.group,
-        enabled,
-        errors[0],
-        errors[1],
-        errors[2],
-        errors[3],
-    ]
+    let enabled = set_low::<2>(words[at + 1], numbers.enabled.into());
+    let [invalid, disparity, lost, reset] = numbers.errors;
+    [numbers.group, enabled, invalid, disparity, lost, reset]
 }
 
 // The words of a monitor.
-fn monitor_over(words: &[u32], at: usize, m: Monitor) -> [u32; MONITOR_WORDS]
-    requires { at + monitor_words ≤ length words.now }
+fn monitor_over(words: &[u32; WORDS], at: usize, m: Monitor) -> [u32; MONITOR_WORDS]
+    requires { at + monitor_words ≤ shelf_words }
     ensures { result ≡ monitor_over words.now at m }
 {
-    [set_low8(words[at], m.source), m.value, m.threshold]
+    [
+        set_low::<0x100>(words[at], m.source.into()),
+        m.value,
+        m.threshold,
+    ]
 }
 
-// The words of its four monitors.
-fn monitors_over(words: &[u32], at: usize, numbers: Phy) -> [u32; 4 * MONITOR_WORDS]
-    requires { at + 4 * monitor_words ≤ length words.now }
-    ensures { result ≡ monitors_over words.now at numbers }
+// The words of its four monitors, one after another.
+fn monitors_over(words: &[u32; WORDS], at: usize, numbers: Phy) -> [[u32; MONITOR_WORDS]; 4]
+    requires { at + 4 * monitor_words ≤ shelf_words }
+    ensures { flat_map (λ m. m) result ≡ monitors_over words.now at numbers }
 {
-    let monitors = numbers.monitors;
-    let second = at + MONITOR_WORDS;
-    let third = second + MONITOR_WORDS;
-    let fourth = third + MONITOR_WORDS;
-    let m0 = monitor_over(words, at, monitors[0]);
-    let m1 = monitor_over(words, second, monitors[1]);
-    let m2 = monitor_over(words, third, monitors[2]);
-    let m3 = monitor_over(words, fourth, monitors[3]);
+    // Not `array::from_fn`: its closure would need clauses of its own, of the place and of the monitor.
+    let [first, second, third, fourth] = numbers.monitors;
     [
-        m0[0], m0[1], m0[2], m1[0], m1[1], m1[2], m2[0], m2[1], m2[2], m3[0], m3[1], m3[2],
+        monitor_over(words, at, first),
+        monitor_over(words, at + MONITOR_WORDS, second),
+        monitor_over(words, at + 2 * MONITOR_WORDS, third),
+        monitor_over(words, at + 3 * MONITOR_WORDS, fourth),
     ]
 }
 
 // The words of its three broadcast counts.
-fn counts_over(words: &[u32], at: usize, numbers: Phy) -> [u32; 3]
-    requires { at + 3 ≤ length words.now }
+fn counts_over(words: &[u32; WORDS], at: usize, numbers: Phy) -> [u32; 3]
+    requires { at + 3 ≤ shelf_words }
     ensures { result ≡ counts_over words.now at numbers }
 {
     [
@@ -96,25 +86,23 @@ fn counts_over(words: &[u32], at: usize, numbers: Phy) -> [u32; 3]
 }
 
 // Writes numbers over the words, from a place on.
-pub(crate) fn store(words: &mut [u32], at: usize, numbers: &[u32])
-    requires { at + length numbers.now ≤ length words.old }
+pub(crate) fn store(words: &mut [u32; WORDS], at: usize, numbers: &[u32])
+    requires { at + length numbers.now ≤ shelf_words }
     ensures { words.new ≡ sets words.old at numbers.now }
 {
-    for i in 0..numbers.len() {
-        words[at + i] = numbers[i];
-    }
+    words[at..at + numbers.len()].copy_from_slice(numbers);
 }
 
 // Writes a phy's record over the words that begin at a place.
-pub(crate) fn store_phy(words: &mut [u32], at: usize, numbers: Phy)
-    requires { at + phy_words ≤ length words.old }
+pub(crate) fn store_phy(words: &mut [u32; WORDS], at: usize, numbers: Phy)
+    requires { at + phy_words ≤ shelf_words }
     ensures { words.new ≡ sets words.old at (phy_over words.old at numbers) }
 {
     let head = head_over(words, at, numbers);
     let monitors = monitors_over(words, at + PHY_MONITORS, numbers);
     let counts = counts_over(words, at + PHY_COUNTS, numbers);
     store(words, at, &head);
-    store(words, at + PHY_MONITORS, &monitors);
+    store(words, at + PHY_MONITORS, monitors.as_flattened());
     store(words, at + PHY_COUNTS, &counts);
 }
 
@@ -123,31 +111,28 @@ pub(crate) fn store_phy(words: &mut [u32], at: usize, numbers: Phy)
 pub fn put(words: &mut [u32; WORDS], p: u32, numbers: Phy, changes: u16)
     ensures { words.new ≡ laid_over words.old (put (shelf_of words.old) p numbers changes) }
 {
-    let all: &mut [u32] = words;
-    if 24 <= p {
-        all[1] = set_low16(all[1], changes);
-        return;
+    if p < 24 {
+        store_phy(words, FIRST_PHY + PHY_WORDS * (p as usize), numbers);
     }
-    store_phy(all, FIRST_PHY + PHY_WORDS * (p as usize), numbers);
-    all[1] = set_low16(all[1], changes);
+    words[CHANGES] = set_low16(words[CHANGES], changes);
 }
 
 // Other counts under FFh: Expander 3h and SES 0h.
 pub fn put_device(words: &mut [u32; WORDS], expander3: u16, ses0: u16)
     ensures { words.new ≡ laid_over words.old (put_device (shelf_of words.old) expander3 ses0) }
 {
-    let all: &mut [u32] = words;
-    all[2] = set_low16(all[2], expander3);
-    all[3] = set_low16(all[3], ses0);
+    words[EXPANDER3] = set_low16(words[EXPANDER3], expander3);
+    words[SES0] = set_low16(words[SES0], ses0);
 }
 
 // The words of an entry, over those that begin at a place: its phy, then its monitor.
-fn entry_over(words: &[u32], at: usize, phy: u8, m: Monitor) -> [u32; ENTRY_WORDS]
-    requires { at + entry_words ≤ length words.now }
+fn entry_over(words: &[u32; WORDS], at: usize, phy: u8, m: Monitor) -> [u32; ENTRY_WORDS]
+    requires { at + entry_words ≤ shelf_words }
     ensures { result ≡ entry_over words.now at (entry_of phy m) }
 {
-    let monitor = monitor_over(words, at + 1, m);
-    [set_low8(words[at], phy), monitor[0], monitor[1], monitor[2]]
+    let phy = set_low::<0x100>(words[at], phy.into());
+    let [source, value, threshold] = monitor_over(words, at + 1, m);
+    [phy, source, value, threshold]
 }
 
 // How many stores there were, after one more: counted on from 32 after 63.
@@ -168,12 +153,11 @@ pub fn store_entry(words: &mut [u32; WORDS], phy: u8, m: Monitor)
         ≡ laid_over words.old
         (put_store (shelf_of words.old) (store (shelf_of words.old).store (entry_of phy m))) }
 {
-    let all: &mut [u32] = words;
-    let count = all[STORE_COUNT];
+    let count = words[STORE_COUNT];
     let at = FIRST_ENTRY + ENTRY_WORDS * ((count % 32) as usize);
-    let entry = entry_over(all, at, phy, m);
-    store(all, at, &entry);
-    let word = all[STORE_LAST];
-    all[STORE_LAST] = set_low16(word, originate(low16(word)));
-    all[STORE_COUNT] = count_on(count);
+    let entry = entry_over(words, at, phy, m);
+    store(words, at, &entry);
+    let word = words[STORE_LAST];
+    words[STORE_LAST] = set_low16(word, originate(low16(word)));
+    words[STORE_COUNT] = count_on(count);
 }

@@ -1,2 +1,4 @@
+-- The descriptors that are left.
+pub mod Left
 -- Each public promise settles its outcome.
 pub mod Settled

@@ -17,6 +17,7 @@ pub(crate) fn descriptor_source(frame: &[u8], i: u8) -> u8
 }
 
 // "4 to 7 threshold", big-endian
+// (The four places are written out: a closure that adds to `at` would have to show that the sum fits.)
 pub(crate) fn descriptor_threshold(frame: &[u8], i: u8) -> u32
     ensures { result ≡ descriptor_threshold frame.now i }
 {
@@ -33,7 +34,8 @@ pub(crate) fn allowed(source: u8) -> bool
 }
 
 // "The first failing descriptor settles the answer, and the rest are not judged": its place among the d descriptors, if one
-// fails.
+// fails. (A loop that ends by `break`: a form that document 01 names, docs/DECISIONS.md.)
+#[tactic(auto, using(crate::proofs::Left::none_left, crate::proofs::Left::next_judged))]
 pub fn first_unsupported(frame: &[u8], d: u8) -> Option<u8>
     ensures { result ≡ first_unsupported frame.now d 0 }
 {

@@ -8,10 +8,11 @@ use Rattle.broadcasts.proofs.send.Goals as goal
 -- src/lib.rt:115:5
 pub broadcast_head-requires : goal.broadcast_head-requires
 broadcast_head-requires c =
-    omega (arith, c.list_all-n.ensures.many, broadcasts_few (shelf_of c.args.words.now) c.args.source c.args.kind)
+    omega (arith, c.push_all.ensures.lists.many, broadcasts_few (shelf_of c.args.words.now) c.args.source c.args.kind)
 
 -- src/lib.rt:108:1
 pub returns : goal.returns
 returns c =
-    report_sent (shelf_of c.args.words.now) c.args.source c.args.kind (omega arith) c.list_all-n.ensures
-    c.copy_from_slice.ensures.after (rw c.changes.ensures at c.broadcast_head.ensures) refl refl
+    let a = c.push_all.ensures.same_buffer in
+    report_sent (shelf_of c.args.words.now) c.args.source c.args.kind (omega arith) c.push_all.ensures.lists
+    c.copy_from_slice.ensures.after (rw c.changes.ensures at c.broadcast_head.ensures) (grind arith) refl
