@@ -1,3 +1,3 @@
 -- What the server's own functions promise, beside the model's definitions.
-pub mod Serving
 pub mod Sending
+pub mod Serving

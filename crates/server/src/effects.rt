@@ -2,16 +2,13 @@
 ghost use Rattle.std.specs.Prelude.{◌≡◌};
 ghost use Rattle.model.specs.Counting.{originate_if};
 ghost use Rattle.model.specs.Store.{carried_out};
-ghost use Rattle.model.specs.Writes.{effect};
 ghost use Rattle.words.specs.Words.{shelf_of, laid_over};
 
 use counters::counts::originate;
-use model::{Effect, Request};
+use model::Effect;
 use words::WORDS;
-use words::read::{changes, phy_at};
+use words::read::changes;
 use words::store::{put, store_entry};
-use writes::configure::configured;
-use writes::control::controlled;
 
 // "Change also moves the change count the same way.": the change count after an effect that originated Change, or did not
 fn changes_after(words: &[u32; WORDS], change: bool) -> u16
@@ -33,29 +30,5 @@ pub(crate) fn carry_out(words: &mut [u32; WORDS], phy: u8, done: Effect)
         if let Some(monitor) = stored {
             store_entry(words, phy, monitor);
         }
-    }
-}
-
-// An accepted 91h or 93h has its full effect; a read leaves the words.
-#[tactic(auto, using(words::proofs::Laying::laid_same), unfolding(model::specs::Writes::effect, model::specs::Writes::doing))]
-pub(crate) fn take_effect(words: &mut [u32; WORDS], frame: &[u8], request: Request)
-    ensures { words.new
-        ≡ laid_over words.old (effect (shelf_of words.old) frame.now request) }
-{
-    match request {
-        Request::PhyControl { phy, operation, .. } => {
-            let done = controlled(operation, phy_at(words, phy.into()));
-            carry_out(words, phy, done);
-        }
-        Request::ConfigurePhyEvent {
-            clear,
-            phy,
-            number,
-            ..
-        } => {
-            let done = configured(frame, number, clear, phy_at(words, phy.into()));
-            carry_out(words, phy, done);
-        }
-        _ => {}
     }
 }

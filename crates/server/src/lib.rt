@@ -3,19 +3,19 @@
 //
 // The shelf stays where it is. Each function takes the pieces that it needs out of the words, has the other crates
 // decide and count on them by value, and puts back at most one phy's record, the counts and what is stored. Data flows one way: the
-// frame is judged (crate `gate`), the judged request is decided from pieces of the shelf (`decide`, by crate `results`), and where it is
-// accepted it is answered (`respond`) and has its effect (`take_effect`).
+// frame is judged (crate `gate`), the judged request is decided from pieces of the shelf (crate `results`), and where it is accepted it
+// is answered and has its effect (`serving`).
 //
 // Each promise says all of what the call comes to, by the model's definitions of the shelf that the words stand for: the
 // answer, the words afterwards and, for `serve`, the lent buffer afterwards. None asks anything of its caller.
 
 #![tactic(auto)]
 
-mod deciding;
 mod effects;
 mod pieces;
 mod reach;
 mod responses;
+mod serving;
 
 ghost use Rattle.std.specs.Prelude.{◌≡◌};
 ghost use Rattle.model.specs.Reports.{event, link_change, noticed};
@@ -24,11 +24,11 @@ ghost use Rattle.model.specs.Server.{served, lent_after};
 ghost use Rattle.model.specs.Shelf.{start};
 ghost use Rattle.words.specs.Words.{shelf_of, laid_over, started_words};
 
-use crate::deciding::decide;
-use crate::effects::{carry_out, take_effect};
+use crate::effects::carry_out;
 use crate::pieces::there;
 use crate::reach::reach_set;
-use crate::responses::{respond, turned_away};
+use crate::responses::turned_away;
+use crate::serving::serve_asked;
 use counters::counts::originate;
 use counters::phy::{change_on, event_on};
 use counters::report::{Report, event_taken};
@@ -79,13 +79,10 @@ pub fn serve(words: &mut [u32; WORDS], source: u32, frame: &[u8], out: &mut [u8]
     let Ok(request) = judged else {
         return turned_away(judged, byte_at(frame, 1), out);
     };
-    let result = decide(words, source, frame, request);
-    let Ok(()) = result else {
-        return Ok(send_result(byte_at(frame, 1), result, out));
-    };
-    let size = respond(words, source, request, out);
-    take_effect(words, frame, request);
-    Ok(size)
+    match serve_asked(words, source, frame, request, out) {
+        Ok(size) => Ok(size),
+        Err(failure) => Ok(send_result(byte_at(frame, 1), Err(failure), out)),
+    }
 }
 
 // An event report: the phy that it names counts it, and each monitor that crossed is stored; the answer says whether its own
