@@ -26,7 +26,8 @@ pub(crate) fn carry_out(words: &mut [u32; WORDS], phy: u8, done: Effect)
 {
     let count = changes_after(words, done.change);
     put(words, phy.into(), done.phy, count);
-    for stored in done.stored {
+    for place in &done.stored {
+        let stored = *place;
         if let Some(monitor) = stored {
             store_entry(words, phy, monitor);
         }
