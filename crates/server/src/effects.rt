@@ -26,8 +26,7 @@ pub(crate) fn carry_out(words: &mut [u32; WORDS], phy: u8, done: Effect)
 {
     let count = changes_after(words, done.change);
     put(words, phy.into(), done.phy, count);
-    for place in &done.stored {
-        let stored = *place;
+    for stored in done.stored {
         if let Some(monitor) = stored {
             store_entry(words, phy, monitor);
         }

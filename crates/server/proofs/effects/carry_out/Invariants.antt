@@ -3,5 +3,5 @@
 use Rattle.server.proofs.Carrying.{Carried}
 use Rattle.server.proofs.effects.carry_out.Given as goal
 
-abbrev pub invariant-loop-place : goal.invariant-loop-place
-invariant-loop-place l = Carried l.fn.words l.fn.phy l.fn.done l.count l.place-index l.words
+abbrev pub invariant-loop-stored : goal.invariant-loop-stored
+invariant-loop-stored l = Carried l.fn.words l.fn.phy l.fn.done l.count l.stored-index l.words
