@@ -31,6 +31,7 @@ pub(crate) fn answer_told(answer: Answer) -> u32
     requires { AnswerFits answer }
     ensures { result ≡ answer_told answer }
 {
+    // a match and not `map_or_else`: the cast leans on what is asked of the answer, which a closure would have to ask again
     match answer {
         Ok(size) => size as u32,
         Err(house) => refused_told(house),

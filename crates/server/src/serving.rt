@@ -36,10 +36,8 @@ pub(crate) fn serve_asked(
     match request {
         Request::ReportGeneral => {
             let number = phy_number(number(words)) as u8;
-            Ok(send(
-                &report_general(changes(words), number, identifier(words)),
-                out,
-            ))
+            let report = report_general(changes(words), number, identifier(words));
+            Ok(send(&report, out))
         }
         Request::ReportManufacturer => Ok(send(&report_manufacturer(changes(words)), out)),
         Request::ReportBroadcast { kind } => {
@@ -48,17 +46,13 @@ pub(crate) fn serve_asked(
         }
         Request::ReportPhyErrorLog { phy } => {
             check_read(grounds(words, source, phy))?;
-            Ok(send(
-                &report_phy_error_log(changes(words), phy, phy_at(words, phy.into())),
-                out,
-            ))
+            let report = report_phy_error_log(changes(words), phy, phy_at(words, phy.into()));
+            Ok(send(&report, out))
         }
         Request::ReportPhyEvent { phy } => {
             check_read(grounds(words, source, phy))?;
-            Ok(send(
-                &report_phy_event(changes(words), phy, phy_at(words, phy.into())),
-                out,
-            ))
+            let report = report_phy_event(changes(words), phy, phy_at(words, phy.into()));
+            Ok(send(&report, out))
         }
         Request::ReportPhyEventList { start } => {
             check_management(grounds(words, source, 0))?;
@@ -70,7 +64,8 @@ pub(crate) fn serve_asked(
             operation,
         } => {
             check_control(grounds(words, source, phy), expected, operation)?;
-            carry_out(words, phy, controlled(operation, phy_at(words, phy.into())));
+            let done = controlled(operation, phy_at(words, phy.into()));
+            carry_out(words, phy, done);
             Ok(send_result(0x91, Ok(()), out))
         }
         Request::ConfigurePhyEvent {
@@ -80,11 +75,8 @@ pub(crate) fn serve_asked(
             number,
         } => {
             check_configure(grounds(words, source, phy), expected, frame, number)?;
-            carry_out(
-                words,
-                phy,
-                configured(frame, number, clear, phy_at(words, phy.into())),
-            );
+            let done = configured(frame, number, clear, phy_at(words, phy.into()));
+            carry_out(words, phy, done);
             Ok(send_result(0x93, Ok(()), out))
         }
     }

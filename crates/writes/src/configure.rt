@@ -117,6 +117,7 @@ fn peaks(monitors: [Monitor; 4]) -> [Option<Monitor>; 4]
 fn clear_on(before: Phy) -> Effect
     ensures { result ≡ clear_on before }
 {
+    let stored = peaks(before.monitors);
     let monitors = clear_monitors(before.monitors);
     let expander2 = originate_cleared(before.monitors, before.expander2);
     Effect {
@@ -126,7 +127,7 @@ fn clear_on(before: Phy) -> Effect
             ..before
         },
         change: false,
-        stored: peaks(before.monitors),
+        stored,
     }
 }
 
