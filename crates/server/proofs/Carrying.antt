@@ -19,6 +19,7 @@ use Rattle.model.specs.Store.{store, store_all, entries_of, carried_out}
 use Rattle.model.proofs.Plain.Store.{store_append}
 use Rattle.words.specs.Sizes.{shelf_words}
 use Rattle.words.specs.Words.{shelf_of, laid_over}
+use Rattle.words.proofs.Pieces.{EntryLow}
 use Rattle.words.proofs.Storing.{Laid, laid_phy, laid_list, laid_nothing}
 use Rattle.model.proofs.Laws.Places.{All}
 use Rattle.server.proofs.StoredFirst.{put_after}
