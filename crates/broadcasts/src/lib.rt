@@ -129,6 +129,7 @@ fn send(words: &[u32; WORDS], source: u32, kind: u8, out: &mut [u8; LEAST_BUFFER
 pub fn report_broadcast(words: &[u32; WORDS], source: u32, kind: u8, out: &mut [u8]) -> usize
     ensures { Sent out.old (report_broadcast (shelf_of words.now) source kind) result out.new }
 {
+    // 0 bytes and not an `Option` where nothing is sent: `Sent` promises the length of what was sent
     match out.first_chunk_mut() {
         Some(front) => send(words, source, kind, front),
         None => 0,

@@ -77,7 +77,7 @@ pub extern "C" fn smp_link_change(shelf: &mut [u32; WORDS], phy: u32) -> u32
     taken_told(link_change(shelf, phy))
 }
 
-// A device notice: SES, or reduced functionality. It has no refusal.
+// A device notice: SES, or reduced functionality, which C says by a bool. It has no refusal.
 #[unsafe(no_mangle)]
 pub extern "C" fn smp_notice(shelf: &mut [u32; WORDS], ses: bool) -> u32
     ensures told { result ≡ 0 }

@@ -43,6 +43,7 @@ pub(crate) fn reach_told(reach: Reach) -> u32
     requires { ReachFits reach }
     ensures { result ≡ reach_told reach }
 {
+    // likewise
     match reach {
         Ok(reached) => reached.number * 0x1000000 + reached.phys,
         Err(house) => refused_told(house),

@@ -42,7 +42,8 @@ pub struct Effect {
     pub stored: [Option<Monitor>; 4],
 }
 
-// What adding to an error count comes to (#104): the new number, and whether the exact sum was above FFFFFFFFh.
+// What adding to an error count comes to (#104): the new number, and whether the exact sum was above FFFFFFFFh. (No `Option`: where
+// it was cut there is a number too.)
 #[derive(Clone, Copy)]
 pub struct Added {
     pub number: u32,
@@ -125,7 +126,8 @@ pub type FunctionResult = Result<(), Failure>;
 
 // A request frame as it was read: one variant to a function, with the bytes that it names. (The expected count, two
 // bytes, is held in 32 bits: so the compiler keeps the variants apart, docs/BENCH.md.)
-// The descriptors of a 93h stay in the frame; `number` says how many there are.
+// The descriptors of a 93h stay in the frame; `number` says how many there are. Broadcast type and phy operation stay the bytes that they
+// are: 02h and 13h, which an unknown one draws, come behind other results.
 #[derive(Clone, Copy)]
 pub enum Request {
     ReportGeneral,

@@ -56,7 +56,7 @@ fn number_returned(words: &[u32; WORDS], start: u16) -> u16
     if before < kept { before + 1 } else { kept }
 }
 
-// The index of the first of the last n entries, and 0000h where there is none.
+// The index of the first of the last n entries, and 0000h where there is none: no `Option`, since 0000h is what the response says.
 fn first_index(last: u16, n: u16) -> u16
     requires { n ≤ 32 }
     ensures { result ≡ first_of last n }
@@ -140,6 +140,7 @@ pub fn report_phy_event_list(words: &[u32; WORDS], start: u16, out: &mut [u8]) -
         (report_phy_event_list (shelf_of words.now).changes (shelf_of words.now).store start)
         result out.new }
 {
+    // 0 bytes and not an `Option` where nothing is sent: `Sent` promises the length of what was sent
     match out.first_chunk_mut() {
         Some(front) => send(words, start, front),
         None => 0,

@@ -12,6 +12,7 @@ use model::{FunctionResult, LEAST_BUFFER};
 pub fn send_result(function: u8, res: FunctionResult, out: &mut [u8]) -> usize
     ensures { Sent out.old (failed function (result_code res)) result out.new }
 {
+    // 0 bytes and not an `Option` where nothing is sent: `Sent` promises the length of what was sent
     if out.len() < LEAST_BUFFER {
         return 0;
     }

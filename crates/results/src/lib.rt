@@ -40,7 +40,8 @@ pub fn check_read(on: Grounds) -> FunctionResult
     check_phy(on, Failure::PhyVacant)
 }
 
-// A write up to its contents: 04h, 10h, and "20h SMP ZONE VIOLATION for 91h and 93h"
+// A write up to its contents: 04h, 10h, and "20h SMP ZONE VIOLATION for 91h and 93h". (`expected` stays beside the grounds, which are the
+// shelf's and the source's: it is the frame's.)
 fn check_write(on: Grounds, expected: u32) -> FunctionResult
     ensures { result ≡ check_write on expected (Ok tt) }
 {

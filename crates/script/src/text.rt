@@ -6,7 +6,8 @@ ghost use Rattle.std.specs.Prelude.{◌≡◌, ◌≤◌, drop, length};
 ghost use Rattle.script.specs.Text.{unread, digit, longer, digits};
 ghost use Rattle.script.specs.Text.{read_number, read_byte, read_one, read, read_whole};
 
-// How far a line has been read, and the last three numbers, the latest as `third`.
+// How far a line has been read, and the last three numbers, the latest as `third`. (The line stays beside it, a parameter of each
+// function: of a struct that holds a reference a clause has to say which of two moments it means.)
 #[derive(Clone, Copy)]
 pub struct Reading {
     pub at: usize,
@@ -47,7 +48,7 @@ fn digit(byte: u8, base: u32) -> Option<u32>
     (value < base).then_some(value)
 }
 
-// A number of this base with one more digit, in 32 bits; what is larger counts as the largest.
+// A number of this base with one more digit, in 32 bits; what is larger counts as the largest. (A base is no kind: it is multiplied by.)
 fn longer(value: u32, base: u32, digit: u32) -> u32
     ensures { result ≡ longer value base digit }
 {

@@ -15,6 +15,7 @@ pub(crate) fn reach_set(words: &[u32; WORDS], source: u32) -> u32
     let row = row(words, source);
     let number = phy_number(number(words));
     let mut set = 0;
+    // the phy's number is its bit: it is no index
     for p in 0..number {
         let numbers = phy_at(words, p);
         set = set + phy_bit(row, numbers.group, p);

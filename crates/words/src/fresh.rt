@@ -15,6 +15,7 @@ use shelf::start::start_group;
 fn lay_phys(words: &mut [u32; WORDS], number: u32, groups: [u32; 24])
     ensures { words.new ≡ sets words.old first_phy (phys_over words.old (fresh_phys number groups)) }
 {
+    // the phy's number, which names its group and its place: it is no index of a list that could be walked
     for p in 0..24u32 {
         let fresh = fresh_phy(start_group(number, groups, p));
         store_phy(words, FIRST_PHY + PHY_WORDS * (p as usize), fresh);

@@ -21,7 +21,7 @@ fn low<const SIZE: u32>(word: u32) -> u32
     word % SIZE
 }
 
-// a number of 16 bits, in the low bits of its word
+// a number of 16 bits, in the low bits of its word: `low` for a caller outside, whose number it then is
 pub fn low16(word: u32) -> u16
     ensures { result ≡ word % 0x10000 }
 {
