@@ -10,6 +10,7 @@ use Rattle.replies.proofs.fixed.report_phy_event
 use Rattle.replies.proofs.fixed.broadcast_descriptor
 use Rattle.replies.proofs.fixed.entry_descriptor
 use Rattle.replies.proofs.sending.send_result
+use Rattle.replies.proofs.wire.two
 
 pub failed_settled : Settled failed.Kinds.ps failed.Kinds.r failed.Reads.Pre failed.Reads.Post
 failed_settled = value_settles _ _ _ (λ κs a x y. refl)
@@ -38,3 +39,6 @@ send_result_settled = record {
   same_result = λ κs a x y. x.promised.0 ∙ sym y.promised.0;
   same_lent = λ κs a x y. ap (λ out. (tt, (tt, (out, tt)))) (x.promised.1 ∙ sym y.promised.1);
 }
+
+pub two_settled : Settled two.Kinds.ps two.Kinds.r two.Reads.Pre two.Reads.Post
+two_settled = value_settles _ _ _ (λ κs a x y. refl)

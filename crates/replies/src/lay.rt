@@ -3,6 +3,8 @@ ghost use Rattle.std.specs.Prelude.{◌≡◌, [], ◌∷◌, ◌+◌, ◌≤◌
 ghost use Rattle.std.proofs.lemmas.List.Edits.{sets};
 ghost use Rattle.model.specs.Bytes.{two};
 
+use crate::wire::two;
+
 #[tactic(auto, using(crate::proofs::Laid::laid_over_lem))]
 pub(crate) fn lay<const N: usize>(frame: &mut [u8; N], at: usize, bytes: &[u8])
     requires { at + length bytes.now ≤ N }
@@ -19,5 +21,5 @@ pub(crate) fn head<const N: usize>(frame: &mut [u8; N], function: u8, dwords: u8
     ensures { frame.new ≡ sets (sets frame.old 0 (0x41 ∷ function ∷ 0x00 ∷ dwords ∷ [])) 4 (two changes) }
 {
     lay(frame, 0, &[0x41, function, 0x00, dwords]);
-    lay(frame, 4, &changes.to_be_bytes());
+    lay(frame, 4, &two(changes));
 }

@@ -10,3 +10,4 @@
 pub mod fixed;
 mod lay;
 pub mod sending;
+pub mod wire;

@@ -11,14 +11,18 @@ use Rattle.std.proofs.lemmas.List.{take_all}
 use Rattle.model.specs.declared.Effect.{Effect}
 use Rattle.model.specs.declared.Entry.{Entry}
 use Rattle.model.specs.declared.Monitor.{Monitor}
+use Rattle.model.specs.declared.Phy.{Phy}
 use Rattle.model.specs.declared.Shelf.{Shelf}
 use Rattle.model.specs.Counting.{originate_if, stored_ones}
-use Rattle.model.specs.Shelf.{entry_of, put, put_store}
+use Rattle.model.specs.Shelf.{entry_of, put, put_store, phy_at}
 use Rattle.model.specs.Store.{store, store_all, entries_of, carried_out}
 use Rattle.model.proofs.Plain.Store.{store_append}
 use Rattle.words.specs.Sizes.{shelf_words}
 use Rattle.words.specs.Words.{shelf_of, laid_over}
-use Rattle.words.proofs.Storing.{Laid, laid_phy, laid_list}
+use Rattle.words.proofs.Pieces.{EntryLow}
+use Rattle.words.proofs.Storing.{Laid, laid_phy, laid_list, laid_nothing}
+use Rattle.model.proofs.Laws.Places.{All}
+use Rattle.server.proofs.StoredFirst.{put_after}
 
 -- the entries of those of some monitors that are there
 abbrev pub entries_there : ℕ → List (Option Monitor) → List Entry
@@ -71,3 +75,42 @@ module _ (ws : List ℕ) (p : ℕ) (e : Effect) (count : ℕ) where
       carried.words
       ∙ ap (λ stored. laid_over ws (with_entries (entries_there p stored))) (take_all i e.stored all)
       ∙ ap (λ n. laid_over ws (put_store (put (shelf_of ws) p e.phy n) (store_all (shelf_of ws).store (entries_of p e)))) moved
+
+-- ---- The same, step by step: from what the calls promise, the phy was read, this is done to it, and the count is the one after that
+
+-- the words once these entries are stored, one after another
+abbrev pub stored_over : List ℕ → List Entry → List ℕ
+stored_over ws es = laid_over ws (put_store (shelf_of ws) (store_all (shelf_of ws).store es))
+
+module _ (ws : List ℕ) (p : ℕ) (f : Phy → Effect) {x : Phy} {e : Effect} {count : ℕ} (read : x ≡ phy_at (shelf_of ws) p) (made : e ≡ f x)
+    (moved : count ≡ originate_if e.change (shelf_of ws).changes)
+  where
+    -- where nothing is stored, both are put, and that is all
+    pub carried : store_all (shelf_of ws).store (entries_of p (f (phy_at (shelf_of ws) p))) ≡ (shelf_of ws).store → {next : List ℕ}
+        → next ≡ laid_over ws (put (shelf_of ws) p e.phy count) → next ≡ laid_over ws (carried_out (shelf_of ws) p (f (phy_at (shelf_of ws) p)))
+    carried none is_next =
+        rw (← read, ← made) (is_next ∙ ap (λ n. laid_over ws (put (shelf_of ws) p e.phy n)) moved
+        ∙ ap (λ k. laid_over ws (put_store (put (shelf_of ws) p e.phy (originate_if e.change (shelf_of ws).changes)) k))
+        (sym (rw (← read, ← made) at none)))
+
+    module _ (long : length ws ≡ shelf_words) (low : All EntryLow (entries_of p e)) where
+      -- all of it
+      all_carried : laid_over ws (put_store (put (shelf_of ws) p e.phy count) (store_all (shelf_of ws).store (entries_of p e)))
+          ≡ laid_over ws (carried_out (shelf_of ws) p e)
+      all_carried =
+          ap (λ n. laid_over ws (put_store (put (shelf_of ws) p e.phy n) (store_all (shelf_of ws).store (entries_of p e)))) moved
+
+      -- what is stored is stored, "in monitor order", after both are put ..
+      pub carried_stored : {now next : List ℕ} → now ≡ laid_over ws (put (shelf_of ws) p e.phy count)
+          → next ≡ stored_over now (entries_of p e)
+          → next ≡ laid_over ws (carried_out (shelf_of ws) p (f (phy_at (shelf_of ws) p)))
+      carried_stored is_now stores =
+          rw (← read, ← made) ((laid_list ws _ (laid_phy ws long p e.phy count is_now) (entries_of p e) low stores).words ∙ all_carried)
+
+      -- .. or before
+      pub stored_carried : {now next : List ℕ} → now ≡ stored_over ws (entries_of p e)
+          → next ≡ laid_over now (put (shelf_of now) p e.phy count)
+          → next ≡ laid_over ws (carried_out (shelf_of ws) p (f (phy_at (shelf_of ws) p)))
+      stored_carried stores is_next =
+          let laid = laid_list ws _ (laid_nothing ws long) (entries_of p e) low stores in
+          rw (← read, ← made) (put_after ws long _ laid.store.entries_size laid.words p e.phy count is_next ∙ all_carried)

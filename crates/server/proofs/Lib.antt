@@ -1,4 +1,5 @@
--- How what is done to a phy is carried out on the words.
+-- How what is done to a phy is carried out on the words; and that the order of putting and storing does not matter.
+pub mod StoredFirst
 pub mod Carrying
 -- Each public promise settles its outcome.
 pub mod Settled

@@ -1,2 +1,3 @@
 -- What the functions of this crate give.
+pub mod Part
 pub mod Spelling

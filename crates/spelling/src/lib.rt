@@ -4,11 +4,14 @@
 
 #![tactic(auto)]
 
+pub mod part;
+
 ghost use Rattle.std.specs.Prelude.{◌≡◌, Some, take};
 ghost use Rattle.spelling.specs.Spelling.{house_text, set_text, response_text};
 
 use gate::numbers::house_number;
 use model::House;
+use part::at_most;
 use std::fmt;
 
 // A house refusal, as H4 or H10, and a newline.
@@ -37,10 +40,10 @@ impl fmt::Display for SetText {
 }
 
 // The first n of the bytes, or all of them where there are fewer.
-fn at_most(n: usize, bytes: &[u8]) -> &[u8]
+fn first(n: usize, bytes: &[u8]) -> &[u8]
     ensures { result.now ≡ take n bytes.now }
 {
-    &bytes[..bytes.len().min(n)]
+    &bytes[..at_most(n, bytes)]
 }
 
 // The bytes of a response in hexadecimal, and a newline after the last. A response has at most 400 bytes; that from
@@ -52,7 +55,7 @@ impl fmt::Display for ResponseText<'_> {
     ghost output = { λ response. Some (response_text response.0.now) };
 
     fn fmt<W: fmt::Write>(&self, f: &mut fmt::Formatter<W>) -> fmt::Result {
-        for &byte in at_most(1364, self.0) {
+        for &byte in first(1364, self.0) {
             write!(f, " {byte:02X}")?;
         }
         f.write_str("\n")
