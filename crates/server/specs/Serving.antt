@@ -1,4 +1,4 @@
--- What the judgement of a request frame alone already answers.
+-- What a request comes to: what the judgement of its frame alone already answers, and what one that was read may come to.
 use Rattle.std.specs.Prelude.{ℕ, ◌≡◌, List, [], Ok, Err}
 use Rattle.model.specs.declared.Failure.{Failure}
 use Rattle.model.specs.declared.Fault.TheVariants.{NoFrame, Fails}
