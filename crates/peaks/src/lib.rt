@@ -72,7 +72,8 @@ fn first_index(last: u16, n: u16) -> u16
     }
 }
 
-// One entry of the list, as descriptor n.
+// One entry of the list, as descriptor n. (A broadcast's `push` copies one of 8 bytes in the same way: what both promise is one definition,
+// `Lists` over a layout, and a function of the layout would be no shorter than these two lines.)
 fn list(out: &mut [u8; LEAST_BUFFER], n: usize, e: Entry)
     requires { n ≤ 31 }
     ensures { Lists entry_list out.old n (e ∷ []) (n + 1) out.new }
@@ -140,7 +141,8 @@ pub fn report_phy_event_list(words: &[u32; WORDS], start: u16, out: &mut [u8]) -
         (report_phy_event_list (shelf_of words.now).changes (shelf_of words.now).store start)
         result out.new }
 {
-    // 0 bytes and not an `Option` where nothing is sent: `Sent` promises the length of what was sent
+    // 0 bytes and not an `Option` where nothing is sent: `Sent` promises the length of what was sent. (`report_broadcast` ends alike;
+    // one function of both would take `send` as a closure, with its clauses.)
     match out.first_chunk_mut() {
         Some(front) => send(words, start, front),
         None => 0,

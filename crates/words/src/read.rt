@@ -151,7 +151,8 @@ fn entry(words: &[u32; WORDS], at: usize) -> Entry
     }
 }
 
-// The entry at place i of the list, in the order in which they are kept; past the 32 there is none.
+// The entry at place i of the list, in the order in which they are kept; past the 32 there is none. (As `phy_at` and `row`, with another
+// piece, place and answer past the last: one function would need a trait of the piece, whose laws each of them would show.)
 pub fn entry_at(words: &[u32; WORDS], i: u32) -> Entry
     ensures { result ≡ entry_at (shelf_of words.now).store i }
 {
