@@ -1,4 +1,5 @@
 // What C is told, as one number of 32 bits: bit 31 and the number of a house refusal, or the number that stands for the answer.
+// (A function to each answer, and no trait of them: what stands for it is all that a function says.)
 ghost use Rattle.std.specs.Prelude.{◌≡◌};
 ghost use Rattle.host.specs.Told.{refused_told, taken_told, event_told, answer_told, reach_told, AnswerFits, ReachFits};
 

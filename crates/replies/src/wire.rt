@@ -2,7 +2,7 @@
 ghost use Rattle.std.specs.Prelude.{◌≡◌};
 ghost use Rattle.model.specs.Bytes.{two};
 
-// a number in two bytes
+// a number in two bytes: std's `to_be_bytes`, under the name that docs/SETTLED.md has for it
 pub fn two(n: u16) -> [u8; 2]
     ensures { result ≡ two n }
 {

@@ -61,7 +61,7 @@ pub fn start(
 }
 
 // One request: source group, request frame and lent buffer. The answer is the length of the response in the buffer, or
-// H4, H5, H6, H10, in this order.
+// H4, H5, H6, H10, in this order. (A length and no slice: the buffer is C's, who asks how many bytes stand in it.)
 #[tactic(auto, using(words::proofs::Laying::laid_same), unfolding(model::specs::Server::served, model::specs::Server::lent_after, model::specs::Server::handle))]
 pub fn serve(words: &mut [u32; WORDS], source: u32, frame: &[u8], out: &mut [u8]) -> Answer
     ensures told { result ≡ (served (shelf_of words.old) source frame.now out.old).answer }
@@ -87,7 +87,8 @@ pub fn serve(words: &mut [u32; WORDS], source: u32, frame: &[u8], out: &mut [u8]
 }
 
 // An event report: the phy that it names counts it, and each monitor that crossed is stored; the answer says whether its own
-// addition to an error count was cut (#104). Or it is refused, and the shelf is as it was.
+// addition to an error count was cut (#104). Or it is refused, and the shelf is as it was. (C hands phy, source and amount over one by
+// one.)
 #[tactic(auto, using(words::proofs::Laying::laid_same), unfolding(model::specs::Reports::event))]
 pub fn event(words: &mut [u32; WORDS], phy: u32, source: u32, amount: u32) -> EventAnswer
     ensures told { result ≡ (event (shelf_of words.old) phy source amount).answer }

@@ -26,7 +26,7 @@ fn set_low<const SIZE: u32>(word: u32, number: u32) -> u32
     word / SIZE * SIZE + number
 }
 
-// a word with another number of 16 bits in its low bits
+// a word with another number of 16 bits in its low bits: `set_low` for seven callers, each of whom would say the width and widen
 fn set_low16(word: u32, number: u16) -> u32
     ensures { result ≡ low_set 0x10000 word number }
 {
