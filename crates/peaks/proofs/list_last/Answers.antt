@@ -10,10 +10,6 @@ loop-i-init c =
     let begun = c.enumerate-i-items.ensures in
     rw (c.into_iter-i-iterator.ensures.into_iter_gives, begun.count, begun.source) (walk_begin, refl, omega arith)
 
-pub list-requires : goal.list-requires
-list-requires c =
-    omega (arith, c.in-Some.ensures.steps, c.loop-i.invariant, kept_few (shelf_of c.args.words.now).store)
-
 -- src/lib.rt:103:5
 pub loop-i-preserved : goal.loop-i-preserved
 loop-i-preserved c =

@@ -1,12 +1,8 @@
 -- `script::report::make_times` meets its contract. Assumes nothing.
-use native.Mathlib.Nat.{sub-zero}
 use Rattle.std.proofs.Common.{◌≡◌, ◌-◌, ap, ◌∙◌, arith}
 use Rattle.script.specs.Report.{Made, make_more}
 use Rattle.script.proofs.Left.{make_turn}
 use Rattle.script.proofs.report.make_times.Goals as goal
-
-pub loop-init : goal.loop-init
-loop-init c = rw sub-zero
 
 pub loop-preserved : goal.loop-preserved
 loop-preserved c =
