@@ -5,7 +5,7 @@
 // `report_broadcast` asks nothing of its caller. What it rests on is private: it has the front of the buffer, where there is
 // room for any response, and asks for no more descriptors than there can be, which are 49: one under FFh and two for each of
 // 24 phys. (`kind` is the broadcast type; `type` is a word of the language. It stays a number: every byte is answered, and told
-// again.)
+// again; and so does a reason, which is what a byte of the response says.)
 
 #![tactic(auto)]
 
@@ -24,7 +24,8 @@ use words::WORDS;
 use words::read::{changes, expander3, number, phy_at, row, ses0};
 
 // The list as it is written: the buffer, and how many descriptors there are.
-// (No bound stands in the type: that `number` is at most 49 would not say that there is room for one more.)
+// (No bound stands in the type: that `number` is at most 49 would not say that there is room for one more. `kind` and `row` go beside it:
+// in the type they would stand in `Grows`, which says nothing of them.)
 #[derive(Drop)]
 struct List<'a> {
     out: &'a mut [u8; LEAST_BUFFER],

@@ -8,7 +8,8 @@
 // H5: "response buffer shorter than 1,028 bytes" (`least_buffer` of specs/Server).
 pub const LEAST_BUFFER: usize = 1028;
 
-// A monitor has an event source, a 32-bit value and a 32-bit threshold; at the start all are 0.
+// A monitor has an event source, a 32-bit value and a 32-bit threshold; at the start all are 0. (A source stays a number: #102 wants its
+// kinds decided by ranges.)
 #[derive(Clone, Copy, Default)]
 pub struct Monitor {
     pub source: u8,

@@ -2,7 +2,8 @@
 // numbers; they are then written into the lent buffer as they are read from the shelf's words, each where it stands.
 //
 // `report_phy_event_list` asks nothing of its caller. The functions that it rests on are private: they have the front of the
-// buffer, where there is room for any response, and ask for no more descriptors than there can be, which are 32.
+// buffer, where there is room for any response, and ask for no more descriptors than there can be, which are 32: a bound of two functions,
+// and no type's.
 
 #![tactic(auto)]
 
@@ -21,7 +22,7 @@ use replies::fixed::entry_descriptor;
 use words::WORDS;
 use words::read::{changes, count, entry_at, last};
 
-// How many entries are kept: none where no index was stored, and 32 at most.
+// How many entries are kept: none where no index was stored (0000h, which is what the response says, and so no `Option`), and 32 at most.
 fn kept(words: &[u32; WORDS]) -> u16
     ensures { result ≡ kept (shelf_of words.now).store }
 {

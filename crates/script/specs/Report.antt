@@ -2,15 +2,16 @@
 use Rattle.std.specs.Prelude.{ℕ, zero, suc, false, List, Option, Some, is_some, option_map, unwrap_or, Ok}
 use Rattle.std.specs.Option.{option_or}
 use Rattle.model.specs.declared.EventOutcome.{EventOutcome}
+use Rattle.model.specs.declared.Notice.TheVariants.{Expander3, Ses0}
 use Rattle.model.specs.declared.Outcome.{Outcome}
 use Rattle.model.specs.declared.Shelf.{Shelf}
 use Rattle.model.specs.Answers.{EventAnswer, Taken, told_cut}
 use Rattle.model.specs.Bytes.{text}
-use Rattle.model.specs.Reports.{event_answer, event, link_change, reduced_functionality, ses_notice}
+use Rattle.model.specs.Reports.{event_answer, event, link_change, noticed}
 use Rattle.model.specs.Tests.{given}
 use Rattle.words.specs.Words.{shelf_of, laid_over}
 use Rattle.script.specs.declared.report.Report.{Report}
-use Rattle.script.specs.declared.report.Report.TheVariants.{Event, LinkChange, ReducedFunctionality, SesNotice}
+use Rattle.script.specs.declared.report.Report.TheVariants.{Event, LinkChange, Notice}
 use Rattle.script.specs.declared.report.ReportLine.{ReportLine}
 use Rattle.script.specs.declared.text.Reading.{Reading}
 use Rattle.script.specs.Text.{reading, read, read_whole}
@@ -30,8 +31,8 @@ read_link_change line start = option_map (λ link. LinkChange link.third) (read_
 
 unfoldable pub read_notice : List ℕ → Reading → Option Report
 read_notice line start =
-    given (is_some (read_whole line start (text "notice of reduced functionality"))) (Some ReducedFunctionality)
-    (option_map (λ _. SesNotice) (read_whole line start (text "SES notice")))
+    given (is_some (read_whole line start (text "notice of reduced functionality"))) (Some (Notice Expander3))
+    (option_map (λ _. Notice Ses0) (read_whole line start (text "SES notice")))
 
 -- the report after how many times; the forms are tried in the order event, link change, reduced functionality, SES
 unfoldable pub read_report : List ℕ → Reading → Option ReportLine
@@ -57,8 +58,7 @@ unfoldable pub make_report : List ℕ → Report → Made
 make_report ws (Event phy source amount) =
     let o : EventOutcome = event (shelf_of ws) phy source amount in made ws o.answer o.shelf
 make_report ws (LinkChange phy) = let o : Outcome = link_change (shelf_of ws) phy in made_uncut ws o.taken o.shelf
-make_report ws ReducedFunctionality = made_uncut ws (Ok tt) (reduced_functionality (shelf_of ws))
-make_report ws SesNotice = made_uncut ws (Ok tt) (ses_notice (shelf_of ws))
+make_report ws (Notice notice) = made_uncut ws (Ok tt) (noticed (shelf_of ws) notice)
 
 -- makes it that many times more
 unfoldable pub make_more : Made → Report → ℕ → Made

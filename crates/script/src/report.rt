@@ -13,8 +13,7 @@ use words::WORDS;
 pub enum Report {
     Event { phy: u32, source: u32, amount: u32 },
     LinkChange { phy: u32 },
-    ReducedFunctionality,
-    SesNotice,
+    Notice(Notice),
 }
 
 // What a line of a report says: the report, and how many times it is made.
@@ -58,10 +57,10 @@ fn read_notice(line: &[u8], start: Reading) -> Option<Report>
     ensures { result ≡ read_notice line.now start }
 {
     if read_whole(line, start, b"notice of reduced functionality").is_some() {
-        return Some(Report::ReducedFunctionality);
+        return Some(Report::Notice(Notice::Expander3));
     }
     read_whole(line, start, b"SES notice")?;
-    Some(Report::SesNotice)
+    Some(Report::Notice(Notice::Ses0))
 }
 
 // Reads a report to the end of the line: `event on phy 2, source 2Dh, amount 12`,
@@ -94,12 +93,8 @@ fn make_report(words: &mut [u32; WORDS], report: Report) -> EventAnswer
             amount,
         } => event(words, phy, source, amount),
         Report::LinkChange { phy } => event_answer(link_change(words, phy), false),
-        Report::ReducedFunctionality => {
-            notice(words, Notice::Expander3);
-            Ok(Counted { cut: false })
-        }
-        Report::SesNotice => {
-            notice(words, Notice::Ses0);
+        Report::Notice(which) => {
+            notice(words, which);
             Ok(Counted { cut: false })
         }
     }

@@ -16,7 +16,7 @@ pub struct Reading {
     pub third: u32,
 }
 
-// Digits that were read: the number, and how many they are.
+// Digits that were read: the number, and how many they are. (No `Option` of it: digits go on from a number that has none yet.)
 #[derive(Clone, Copy)]
 struct Number {
     value: u32,

@@ -43,7 +43,7 @@ use words::read::{expander3, phy_at, ses0};
 use words::store::put_device;
 
 // A start: the words of the fresh shelf are written; or it is refused, H1, H2 or H3, and they are as they were. (No struct of the four:
-// C hands them over one by one, and the table is asked for by value.)
+// it would be made in `host`, of what C hands over one by one, and taken apart here.)
 #[tactic(auto, unfolding(model::specs::Shelf::start))]
 pub fn start(
     words: &mut [u32; WORDS],

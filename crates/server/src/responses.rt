@@ -14,7 +14,8 @@ pub(crate) fn turned_away(judged: Judged, function: u8, out: &mut [u8]) -> Answe
     ensures left { out.new ≡ lent out.old (judged_reply function judged) }
 {
     match judged {
-        // never run: `serve` has taken the request out before
+        // never run: `serve` has taken the request out before, by `let .. else`, a form that document 01 names, which leaves the
+        // judgement whole
         Ok(_) => Ok(0),
         Err(Fault::NoFrame(house)) => Err(house),
         Err(Fault::Fails(failure)) => Ok(send_result(function, Err(failure), out)),

@@ -33,7 +33,8 @@ pub(crate) fn serve_asked(
         (λ size. Accepts (shelf_of words.old) source frame.now request out.old words.old size out.new words.new)
         (λ failure. Declines (shelf_of words.old) source frame.now request out.old words.old failure out.new words.new) }
 {
-    // 11h and 14h differ in the report alone; one function of both would take it as a closure, with clauses longer than an arm
+    // 11h and 14h differ in the report alone, 91h and 93h in what is done; one function of both would take that as a closure, with
+    // clauses longer than an arm. (21h names no phy: `phy_of` says 0, and `check_management` looks at none.)
     match request {
         Request::ReportGeneral => {
             let number = phy_number(number(words)) as u8;

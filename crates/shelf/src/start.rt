@@ -25,7 +25,8 @@ fn groups_fit(number: u32, groups: [u32; 24]) -> bool
     groups[..number as usize].iter().all(|&group| group <= 31)
 }
 
-// H1 "phy number not 1 to 24", H2 "a phy's group is above 31", H3 "table not legal"
+// H1 "phy number not 1 to 24", H2 "a phy's group is above 31", H3 "table not legal" (Three of the four of a start, as `start` of `server`
+// has them.)
 #[tactic(auto, unfolding(model::specs::Shelf::start_taken))]
 pub fn start_taken(number: u32, groups: [u32; 24], table: [u32; 32]) -> Taken
     ensures { result ≡ start_taken number groups table }

@@ -41,7 +41,7 @@ fn lay_front(words: &mut [u32; WORDS], device: [u32; FIRST_ROW], table: [u32; 32
     store(words, FIRST_ROW, &table);
 }
 
-// Writes all words of a fresh shelf: every bit above a number is 0.
+// Writes all words of a fresh shelf: every bit above a number is 0. (The four of a start, as `start` of `server` has them.)
 pub fn lay_fresh(
     words: &mut [u32; WORDS],
     number: u32,

@@ -1,4 +1,4 @@
-// The shelf in lent memory: words of 32 bits, in which the caller of the server keeps it.
+// The shelf in lent memory: words of 32 bits, in which the caller of the server keeps it, who is C: so numbers at places, and no structs.
 //
 // The shelf stays where it is. Its pieces are read out of the words (`read`), a phy's record, a count or an entry of the
 // list of stored peak events is put back into them (`store`), and a start writes them all (`fresh`). What words stand for

@@ -28,7 +28,7 @@ pub fn low16(word: u32) -> u16
     low::<0x10000>(word) as u16
 }
 
-// The phy number.
+// The phy number. (This and the next name each its word; one function over the place would promise a field that depends on a number.)
 #[tactic(auto, unfolding(crate::specs::Words::shelf_of))]
 pub fn number(words: &[u32; WORDS]) -> u32
     ensures { result ≡ (shelf_of words.now).number }

@@ -63,7 +63,8 @@ fn monitors_over(words: &[u32; WORDS], at: usize, numbers: Phy) -> [[u32; MONITO
     requires { at + 4 * monitor_words ≤ shelf_words }
     ensures { flat_map (λ m. m) result ≡ monitors_over words.now at numbers }
 {
-    // Not `array::from_fn`: its closure would need clauses of its own, of the place and of the monitor.
+    // Tried with `array::from_fn`: in its closure neither that the place fits its type nor that a monitor's words fit the shelf's
+    // did prove (`overflow_add-at`, `monitor_over-requires`).
     let [first, second, third, fourth] = numbers.monitors;
     [
         monitor_over(words, at, first),

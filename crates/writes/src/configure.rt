@@ -93,7 +93,8 @@ fn any_peak(monitors: [Monitor; 4]) -> bool
     monitors.iter().any(|monitor| on_peak(*monitor))
 }
 
-// .. then Expander 2h "is originated once"
+// .. then Expander 2h "is originated once". (An `if` of one count, as in `changes_after` of `server`: a function of both would be public, to
+// name two words.)
 fn originate_cleared(monitors: [Monitor; 4], count: u16) -> u16
     ensures { result ≡ originate_if (any_peak monitors) count }
 {

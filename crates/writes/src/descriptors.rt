@@ -17,12 +17,11 @@ pub(crate) fn descriptor_source(frame: &[u8], i: u8) -> u8
 }
 
 // "4 to 7 threshold", big-endian
-// (The four places are written out: a closure that adds to `at` would have to show that the sum fits.)
 pub(crate) fn descriptor_threshold(frame: &[u8], i: u8) -> u32
     ensures { result ≡ descriptor_threshold frame.now i }
 {
     let at = 12 + 8 * usize::from(i) + 4;
-    u32::from_be_bytes([at, at + 1, at + 2, at + 3].map(|place| byte_at(frame, place)))
+    u32::from_be_bytes(std::array::from_fn(|k| byte_at(frame, at + k)))
 }
 
 // What a descriptor may name: a supported source, or 00h ("00h allowed").
