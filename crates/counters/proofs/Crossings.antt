@@ -27,11 +27,15 @@ module _ (source amount : ℕ) where
       go true e = not_a_peak m _ (ap peak (eqb-true m.source source e) ∙ counts)
       go false e = same_value m _ (rw e)
 
+  pub none_crossed : peak source ≡ false → (ms : List Monitor) → crossings source amount ms ≡ replicate (length ms) false
+  none_crossed counts [] = refl
+  none_crossed counts (m ∷ ms) = rw (not_crossed counts m, none_crossed counts ms)
+
   all_none : peak source ≡ false → (ms : List Monitor)
       → marked (crossings source amount ms) (map (counted source amount) ms) ≡ replicate (length ms) None
   all_none counts [] = refl
   all_none counts (m ∷ ms) = rw (not_crossed counts m, all_none counts ms)
 
-  pub none_crossed : peak source ≡ false → (ms : List Monitor) → length ms ≡ 4
+  pub none_left : peak source ≡ false → (ms : List Monitor) → length ms ≡ 4
       → marked (crossings source amount ms) (map (counted source amount) ms) ≡ None ∷ None ∷ None ∷ None ∷ []
-  none_crossed counts ms four = all_none counts ms ∙ ap (λ n. replicate n None) four
+  none_left counts ms four = all_none counts ms ∙ ap (λ n. replicate n None) four

@@ -58,7 +58,7 @@ fn crossed(report: Report, before: Monitor) -> Option<Monitor>
 }
 
 // .. and which of the four are. A report on a counting source changes no peak, and so takes none anywhere.
-#[tactic(auto, using(crate::proofs::Crossings::none_crossed))]
+#[tactic(auto, using(crate::proofs::Crossings::none_left))]
 fn all_crossed(report: Report, monitors: [Monitor; 4]) -> [Option<Monitor>; 4]
     ensures { result ≡ marked (crossings report.source report.amount monitors) (map (counted report.source report.amount) monitors) }
 {
