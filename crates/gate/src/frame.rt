@@ -37,7 +37,8 @@ fn length_right(function: Function, frame: &[u8]) -> bool
     let d = byte_at(frame, 11) as usize;
     let size = frame.len();
     match function {
-        // An arm to each: with the first three in one, judging takes up to 16 instructions more.
+        // An arm to each: with the first three in one, a 04h takes 104 instructions and a 16h 102, over the 100 that docs/BENCH.md allows a
+        // refusal; so they take 95 and 91.
         Function::ReportGeneral => size == 4 && length == 0x00,
         Function::ReportManufacturer => size == 4 && length == 0x00,
         Function::ReportBroadcast => size == 4 && length == 0x00,
