@@ -10,7 +10,8 @@ use server::reach_query;
 use std::io;
 use words::WORDS;
 
-// `event on phy 2, source 2Dh, amount 12`, `65534 times: link change on phy 0` and the like
+// `event on phy 2, source 2Dh, amount 12`, `65534 times: link change on phy 0` and the like. (A match here, in `run_reach` and in
+// `run_request`, and no `From` of each answer: it would be the same two arms elsewhere.)
 fn run_report(words: &mut [u32; WORDS], line: &[u8], from: Reading) -> Option<Told<'static>> {
     let said = read_report(line, from)?;
     match make_times(words, said.report, said.times) {
