@@ -119,7 +119,7 @@ static inline uint32_t smp_refusal(uint32_t told) { return smp_refused(told) ? t
 
 /* A start: the fresh shelf is laid into C's memory. Tells 0; or H1, H2 or H3, and then there is no
  * shelf: the memory is as it was. The memory has been set before, to anything (calloc does, malloc
- * does not). A start takes less than 400 bytes of stack; every other function at most 200.
+ * does not). A start takes less than 400 bytes of stack; every other function takes less than 200.
  *
  * number      phy number
  * groups      24 groups; those past the phy number are ignored

@@ -19,6 +19,7 @@ ghost use Rattle.replies.specs.Sent.{Sent};
 use gate::zone::smp_row_reaches;
 use model::{LEAST_BUFFER, Phy};
 use replies::fixed::broadcast_descriptor;
+use replies::wire::two;
 use shelf::phys::phy_number;
 use words::WORDS;
 use words::read::{changes, expander3, number, phy_at, row, ses0};
@@ -111,7 +112,7 @@ fn broadcast_head(changes: u16, kind: u8, n: u8) -> [u8; 8]
     requires { n ≤ 49 }
     ensures { result ≡ broadcast_head changes kind n }
 {
-    let [high, low] = changes.to_be_bytes();
+    let [high, low] = two(changes);
     [0x41, 0x06, 0x00, 1 + 2 * n, high, low, kind, n]
 }
 

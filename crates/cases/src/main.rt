@@ -16,12 +16,16 @@ use std::io::Read;
 use words::WORDS;
 
 // Runs a script line by line. A line ends at a newline or at the end of the script, and the shelf
-// goes on from line to line.
+// goes on from line to line. So do the buffer that is lent to requests and the text of their responses, which are
+// made once.
 fn run_script(rt: &impl Print, script: &[u8]) -> io::Result<()> {
     let mut words = [0u32; WORDS];
+    let mut buffer = [0u8; 2048];
+    let mut text = [0u8; 4096];
     shelf_w(&mut words);
     for line in script.split_inclusive(|&byte| byte == b'\n') {
-        run_line(rt, &mut words, line.strip_suffix(b"\n").unwrap_or(line))?;
+        let line = line.strip_suffix(b"\n").unwrap_or(line);
+        run_line(rt, &mut words, line, &mut buffer, &mut text)?;
     }
     Ok(())
 }

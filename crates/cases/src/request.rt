@@ -14,7 +14,7 @@ fn read_frame<'a>(line: &[u8], from: Reading, room: &'a mut [u8]) -> Option<&'a 
             length = i;
             break;
         }
-        (*place, next) = read_hex(line, next)?;
+        (*place, next) = read_hex(line, next).ok()?;
     }
     if next.at < line.len() {
         return None;
@@ -23,16 +23,18 @@ fn read_frame<'a>(line: &[u8], from: Reading, room: &'a mut [u8]) -> Option<&'a 
 }
 
 // `from 8: 40 14 00 ..`, `from 1, buffer of 1027: 40 ..`. The response stands in the lent part of the buffer,
-// and is never longer than it.
+// and is never longer than it. The buffer is full of EEh before, which is in no stored response, so a byte that the
+// server did not write would show.
 pub(crate) fn run_request<'a>(
     words: &mut [u32; WORDS],
     line: &[u8],
     from: Reading,
     buffer: &'a mut [u8],
 ) -> Option<Told<'a>> {
-    let asked = read_asked(line, from)?;
+    let asked = read_asked(line, from).ok()?;
     let mut room = [0u8; 1100];
     let frame = read_frame(line, asked.after, &mut room)?;
+    buffer.fill(0xEE);
     let lent = buffer.get_mut(..asked.room)?;
     match serve(words, asked.source, frame, lent) {
         Ok(size) => Some(Told::Response(lent.get(..size)?)),

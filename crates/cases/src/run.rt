@@ -1,6 +1,6 @@
 // Running a line of the script.
 use crate::request::run_request;
-use crate::told::Told;
+use crate::told::{Told, print_told};
 use model::{Counted, Reached};
 use script::line::{Line, line_kind};
 use script::report::{make_times, read_report};
@@ -36,7 +36,7 @@ fn run_operation<'a>(
     line: &[u8],
     buffer: &'a mut [u8],
 ) -> Option<Told<'a>> {
-    let from = read(line, unread(), b"  ")?;
+    let from = read(line, unread(), b"  ").ok()?;
     match kind {
         Line::Request => run_request(words, line, from, buffer),
         Line::Reach => run_reach(words, line, from),
@@ -45,9 +45,13 @@ fn run_operation<'a>(
 }
 
 // Runs one line on the shelf in these words, and writes it with what it came to. A heading starts shelf W afresh.
-// The buffer of a request is full of EEh, which is in no stored response, so a byte that the server did
-// not write would show.
-pub(crate) fn run_line(rt: &impl Print, words: &mut [u32; WORDS], line: &[u8]) -> io::Result<()> {
+pub(crate) fn run_line(
+    rt: &impl Print,
+    words: &mut [u32; WORDS],
+    line: &[u8],
+    buffer: &mut [u8; 2048],
+    text: &mut [u8; 4096],
+) -> io::Result<()> {
     rt.write_all(line)?;
     match line_kind(line) {
         Line::Heading => {
@@ -57,9 +61,8 @@ pub(crate) fn run_line(rt: &impl Print, words: &mut [u32; WORDS], line: &[u8]) -
         Line::Idle => rt.write_all(b"\n"),
         kind => {
             rt.write_all(b" ->")?;
-            let mut buffer = [0xEEu8; 2048];
-            match run_operation(words, kind, line, &mut buffer) {
-                Some(told) => rt.print(told),
+            match run_operation(words, kind, line, buffer) {
+                Some(told) => print_told(rt, told, text),
                 None => rt.write_all(b" ?\n"),
             }
         }

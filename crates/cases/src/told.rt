@@ -1,7 +1,10 @@
-// What an operation of the script comes to, as it is written after the line itself and an arrow.
+// What an operation of the script comes to, and how it is written after the line itself and an arrow.
+//
+// By the functions of `spelling` and not by `Display`: they promise the text for every value, and cannot fail; `fmt` promises none where it
+// fails, and wrote a long response in two pieces, byte by byte, at ten times the cost.
 use model::House;
-use spelling::{HouseText, ResponseText, SetText};
-use std::fmt;
+use spelling::{house_text, set_text, spell};
+use std::io;
 
 #[derive(Clone, Copy)]
 pub(crate) enum Told<'a> {
@@ -13,14 +16,27 @@ pub(crate) enum Told<'a> {
     Refused(House),
 }
 
-impl fmt::Display for Told<'_> {
-    fn fmt<W: fmt::Write>(&self, f: &mut fmt::Formatter<W>) -> fmt::Result {
-        match *self {
-            Told::Response(response) => ResponseText(response).fmt(f),
-            Told::Reached { phys, number } => writeln!(f, "{}{number}", SetText(phys)),
-            Told::Done { cut: true } => f.write_str(" done, cut\n"),
-            Told::Done { cut: false } => f.write_str(" done\n"),
-            Told::Refused(house) => HouseText(house).fmt(f),
+fn print_house(rt: &impl Print, house: House) -> io::Result<()> {
+    let mut text = [0u8; 5];
+    let n = house_text(house, &mut text);
+    rt.write_all(&text[..n])
+}
+
+fn print_response(rt: &impl Print, response: &[u8], text: &mut [u8; 4096]) -> io::Result<()> {
+    let n = spell(response, text);
+    rt.write_all(&text[..n])
+}
+
+// The text is where a response is laid.
+pub(crate) fn print_told(rt: &impl Print, told: Told<'_>, text: &mut [u8; 4096]) -> io::Result<()> {
+    match told {
+        Told::Response(response) => print_response(rt, response, text),
+        Told::Reached { phys, number } => {
+            rt.write_all(&set_text(phys))?;
+            rt.println(number)
         }
+        Told::Done { cut: true } => rt.write_all(b" done, cut\n"),
+        Told::Done { cut: false } => rt.write_all(b" done\n"),
+        Told::Refused(house) => print_house(rt, house),
     }
 }

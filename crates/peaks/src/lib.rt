@@ -19,6 +19,7 @@ ghost use Rattle.peaks.specs.Listed.{entry_list};
 
 use model::{Entry, LEAST_BUFFER};
 use replies::fixed::entry_descriptor;
+use replies::wire::two;
 use words::WORDS;
 use words::read::{changes, count, entry_at, last};
 
@@ -102,9 +103,9 @@ fn event_list_head(changes: u16, first: u16, last: u16, n: u8) -> [u8; 12]
     requires { n ≤ 32 }
     ensures { result ≡ event_list_head changes first last n }
 {
-    let [changes_high, changes_low] = changes.to_be_bytes();
-    let [first_high, first_low] = first.to_be_bytes();
-    let [last_high, last_low] = last.to_be_bytes();
+    let [changes_high, changes_low] = two(changes);
+    let [first_high, first_low] = two(first);
+    let [last_high, last_low] = two(last);
     [
         0x41,
         0x21,

@@ -4,6 +4,7 @@ ghost use Rattle.model.specs.Reply.{failed, report_general, report_manufacturer,
 ghost use Rattle.model.specs.Reply.{event_descriptor, report_phy_event, broadcast_descriptor, entry_descriptor};
 
 use crate::lay::{head, lay};
+use crate::wire::two;
 use model::{Entry, Monitor, Phy};
 
 // "A failed response is 41h, the function, the result, 00h." With result 00h it is a write's response.
@@ -85,7 +86,7 @@ pub fn broadcast_descriptor(phy: u8, reason: u8, count: u16) -> [u8; 8]
     let mut descriptor = [0u8; 8];
     lay(&mut descriptor, 0, &[phy]);
     lay(&mut descriptor, 2, &[reason]);
-    lay(&mut descriptor, 4, &count.to_be_bytes());
+    lay(&mut descriptor, 4, &two(count));
     descriptor
 }
 

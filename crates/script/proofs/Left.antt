@@ -7,11 +7,11 @@ use mathlib.Core.Path.{◌≡◌}
 use mathlib.Core.List.{List}
 use lib.ListN.{length, drop, get_or, drop_of_length-le}
 use lib.Seq.{drop-cons}
-use Rattle.std.specs.Prelude.{None, Some}
+use Rattle.std.specs.Prelude.{None, Some, Result}
 use Rattle.script.specs.declared.report.Report.{Report}
 use Rattle.script.specs.declared.text.Reading.{Reading}
 use Rattle.script.specs.Report.{Made, make_report, make_more}
-use Rattle.script.specs.Text.{digit, longer, digits, read_number, read_one, read}
+use Rattle.script.specs.Text.{digit, longer, digits, read_next, read_on}
 
 module _ (base : ℕ) (bytes : List ℕ) (value n i : ℕ) where
   -- a digit is read
@@ -31,26 +31,15 @@ module _ (base : ℕ) (bytes : List ℕ) (value n i : ℕ) where
   unfolding digits
   digits_end h = rw (drop_of_length-le bytes h)
 
--- there is no number past the end of the line
-pub number_past : (line : List ℕ) (from : Reading) (base : ℕ) → length line ≤ from.at → read_number line from base ≡ None
-unfolding read_number digits
-number_past line from base h = rw (drop_of_length-le line h)
-
-module _ (line : List ℕ) (next : Reading) (form : List ℕ) (i : ℕ) where
+module _ (line : List ℕ) (next : Result Reading Reading) (form : List ℕ) (i : ℕ) where
   -- a byte of the form is read by
-  pub read_turn : (after : Reading) → i < length form → read_one line next (get_or form i 0) ≡ Some after
-      → read line next (drop i form) ≡ read line after (drop (i + 1) form)
-  unfolding read
-  read_turn after h is = rw (drop-cons form i 0 h, is, add-one)
-
-  -- what stands there is not as the form has it
-  pub read_stop : i < length form → read_one line next (get_or form i 0) ≡ None → read line next (drop i form) ≡ None
-  unfolding read
-  read_stop h is = rw (drop-cons form i 0 h, is)
+  pub read_turn : i < length form → read_on line next (drop i form) ≡ read_on line (read_next line next (get_or form i 0)) (drop (i + 1) form)
+  unfolding read_on
+  read_turn h = rw (drop-cons form i 0 h, add-one)
 
   -- the form is read to its end
-  pub read_end : length form ≤ i → read line next (drop i form) ≡ Some next
-  unfolding read
+  pub read_end : length form ≤ i → read_on line next (drop i form) ≡ next
+  unfolding read_on
   read_end h = rw (drop_of_length-le form h)
 
 -- a report is made once more

@@ -2,3 +2,5 @@
 pub mod Left
 -- Each public promise settles its outcome.
 pub mod Settled
+-- What the readings with flags told, as they were before docs/DESIGN-PASS.md, is told still.
+pub mod Flagged

@@ -1,6 +1,7 @@
 -- The reports of a script.
-use Rattle.std.specs.Prelude.{ℕ, zero, suc, false, List, Option, Some, is_some, option_map, unwrap_or, Ok}
+use Rattle.std.specs.Prelude.{ℕ, zero, suc, false, List, Option, Some, is_some, option_map, Ok}
 use Rattle.std.specs.Option.{option_or}
+use Rattle.std.specs.Result.{result_unwrap_or}
 use Rattle.model.specs.declared.EventOutcome.{EventOutcome}
 use Rattle.model.specs.declared.Notice.TheVariants.{Expander3, Ses0}
 use Rattle.model.specs.declared.Outcome.{Outcome}
@@ -18,7 +19,7 @@ use Rattle.script.specs.Text.{reading, read, read_whole}
 
 -- how many times, which may be left out, as the last number
 unfoldable pub read_times : List ℕ → Reading → Reading
-read_times line from = unwrap_or (read line from (text "# times: ")) (reading from.at from.first from.second 1)
+read_times line from = result_unwrap_or (read line from (text "# times: ")) (reading from.at from.first from.second 1)
 
 -- the forms of a report, each to the end of the line
 unfoldable pub read_event : List ℕ → Reading → Option Report

@@ -3,7 +3,7 @@
 -- Assumes nothing.
 use Prim.Native.Nat.{ℕ, ◌≤◌}
 use mathlib.Core.Path.{◌≡◌, refl, sym, ◌∙◌}
-use mathlib.Core.Bool.{Bool, true, false, cond}
+use mathlib.Core.Bool.{false, cond}
 use mathlib.Core.List.{List}
 use lib.ListN.{length}
 use Rattle.std.specs.Prelude.{Ok, Err}
@@ -39,7 +39,7 @@ leaves_words ws result effected = laid_over ws (cond (accepted result) effected 
 abbrev pub Other : FunctionResult → Type 0
 Other result = result ≡ Ok tt → ⊥
 
-not_accepted : (result : FunctionResult) → Other result → accepted result ≡ false
+pub not_accepted : (result : FunctionResult) → Other result → accepted result ≡ false
 not_accepted (Ok tt) e = absurd (e refl)
 not_accepted (Err UnknownSmpFunction) e = refl
 not_accepted (Err SmpFunctionFailed) e = refl

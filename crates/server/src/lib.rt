@@ -31,10 +31,10 @@ use crate::responses::turned_away;
 use crate::serving::serve_asked;
 use counters::counts::originate;
 use counters::phy::{change_on, event_on};
-use counters::report::{Report, event_taken};
+use counters::report::{Report, event_answer, event_taken};
 use gate::bytes::byte_at;
 use gate::frame::judge;
-use model::{Answer, Counted, EventAnswer, House, LEAST_BUFFER, Notice, Reach, Reached, Taken};
+use model::{Answer, EventAnswer, House, LEAST_BUFFER, Notice, Reach, Reached, Taken};
 use replies::sending::send_result;
 use shelf::start::start_taken;
 use words::WORDS;
@@ -96,10 +96,13 @@ pub fn event(words: &mut [u32; WORDS], phy: u32, source: u32, amount: u32) -> Ev
         ≡ laid_over words.old (event (shelf_of words.old) phy source amount).shelf }
 {
     let report = Report { source, amount };
-    event_taken(there(words, phy), report)?;
+    let taken = event_taken(there(words, phy), report);
+    let Ok(()) = taken else {
+        return event_answer(taken, false);
+    };
     let counted = event_on(report, phy_at(words, phy));
     carry_out(words, phy as u8, counted.effect);
-    Ok(Counted { cut: counted.cut })
+    event_answer(taken, counted.cut)
 }
 
 // A link change on a phy, enabled or not: it originates Change, and the change count moves. Or H7.

@@ -4,7 +4,7 @@ ghost use Rattle.model.specs.Server.{least_buffer};
 ghost use Rattle.words.specs.Words.{shelf_of};
 ghost use Rattle.server.specs.Serving.{Accepts, Declines};
 
-use crate::effects::carry_out;
+use crate::effects::carry_out_write;
 use crate::pieces::grounds;
 use crate::responses::send;
 use broadcasts::report_broadcast;
@@ -67,7 +67,7 @@ pub(crate) fn serve_asked(
         } => {
             check_control(grounds(words, source, phy), expected, operation)?;
             let done = controlled(operation, phy_at(words, phy.into()));
-            carry_out(words, phy, done);
+            carry_out_write(words, phy, done);
             Ok(send_result(0x91, Ok(()), out))
         }
         Request::ConfigurePhyEvent {
@@ -78,7 +78,7 @@ pub(crate) fn serve_asked(
         } => {
             check_configure(grounds(words, source, phy), expected, frame, number)?;
             let done = configured(frame, number, clear, phy_at(words, phy.into()));
-            carry_out(words, phy, done);
+            carry_out_write(words, phy, done);
             Ok(send_result(0x93, Ok(()), out))
         }
     }

@@ -1,14 +1,15 @@
--- `all` over the numbers 0 to n - 1, or over the first n elements of a list, is the test of each. Assumes nothing.
+-- `all` over the numbers 0 to n - 1, or over the first n elements of a list, is the test of each; and a fold that asks every element is `all`.
+-- Assumes nothing.
 use Prim.Native.Nat.{ℕ, zero, suc, ◌≤◌, ◌<◌}
 use native.Mathlib.Nat.{zero-add}
 use native.Mathlib.Numerals.{add-one}
 use native.Mathlib.Omega.{arith}
 use mathlib.Core.Path.{◌≡◌, refl, sym, ap, ◌∙◌}
-use mathlib.Core.Bool.{Bool}
-use mathlib.Core.List.{List}
+use mathlib.Core.Bool.{Bool, true, false, ◌&&◌}
+use mathlib.Core.List.{List, [], ◌∷◌}
 use lib.ListN.{length, get_or, take}
 use lib.Seq.{take_all}
-use Rattle.std.specs.List.{list_all, range_with_len}
+use Rattle.std.specs.List.{fold, list_all, range_with_len}
 use Rattle.std.proofs.lemmas.List.Folds.{list_all_more}
 use Rattle.std.proofs.lemmas.List.FromFn.{length-range_with_len, get_or-range_with_len}
 use Rattle.model.specs.Tests.{all_below}
@@ -29,3 +30,13 @@ all_of_range p test n same =
     let here : (i : ℕ) → i < n → p (get_or xs i 0) ≡ test i =
     λ i h. rw (get_or-range_with_len 0 n i 0 h, zero-add i) (same i h) in
     ap (list_all p) (sym whole) ∙ all_of_list p xs 0 test n (omega arith) here
+
+module _ {X : Type 0} (p : X → Bool) where
+  fold_all : (so_far : Bool) (xs : List X) → fold (λ ok x. ok && p x) so_far xs ≡ (so_far && list_all p xs)
+  fold_all true [] = refl
+  fold_all false [] = refl
+  fold_all true (x ∷ xs) = fold_all (p x) xs
+  fold_all false (x ∷ xs) = fold_all false xs
+
+  pub all_by_fold : (xs : List X) → fold (λ ok x. ok && p x) true xs ≡ list_all p xs
+  all_by_fold xs = fold_all true xs

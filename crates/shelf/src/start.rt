@@ -22,7 +22,10 @@ fn groups_fit(number: u32, groups: [u32; 24]) -> bool
     requires { number ≤ 24 }
     ensures { result ≡ groups_fit number groups }
 {
-    groups[..number as usize].iter().all(|&group| group <= 31)
+    // A fold, and no `all`, which stops at the first that fails: so the compiler takes several at once.
+    groups[..number as usize]
+        .iter()
+        .fold(true, |so_far, &group| so_far & (group <= 31))
 }
 
 // H1 "phy number not 1 to 24", H2 "a phy's group is above 31", H3 "table not legal" (Three of the four of a start, as `start` of `server`

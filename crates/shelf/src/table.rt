@@ -9,9 +9,10 @@ fn row_symmetric(table: [u32; 32], g: u32) -> bool
     requires { g < 32 }
     ensures { result ≡ row_symmetric table g }
 {
-    // Both groups stand here, as a row's place and as a bit of the other row.
-    (0..32u32).all(|h| {
-        smp_row_reaches(table[g as usize], h) == smp_row_reaches(table[h as usize], g)
+    // Both groups stand here, as a row's place and as a bit of the other row. (A fold that asks for all of them, and no `all`: a legal table
+    // has none that fails, at which `all` would stop, and without that way out the compiler takes several at once.)
+    (0..32u32).fold(true, |so_far, h| {
+        so_far & (smp_row_reaches(table[g as usize], h) == smp_row_reaches(table[h as usize], g))
     })
 }
 
@@ -19,7 +20,7 @@ fn row_symmetric(table: [u32; 32], g: u32) -> bool
 fn symmetric(table: [u32; 32]) -> bool
     ensures { result ≡ symmetric table }
 {
-    (0..32u32).all(|g| row_symmetric(table, g))
+    (0..32u32).fold(true, |so_far, g| so_far & row_symmetric(table, g))
 }
 
 // "A legal table is symmetric; row 1 is all ones; row 0 has bit 1 alone."

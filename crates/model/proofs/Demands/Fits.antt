@@ -2,12 +2,13 @@
 use Prim.Native.Nat.{ℕ, zero, suc, ◌+◌, ◌≤◌, ◌<◌}
 use native.Mathlib.Nat.{zero-add}
 use native.Mathlib.Omega.{arith}
-use mathlib.Core.Path.{◌≡◌, refl, ◌∙◌}
+use mathlib.Core.Path.{◌≡◌, refl, sym, ap, ◌∙◌}
 use mathlib.Core.Bool.{Bool, true, false}
 use mathlib.Core.List.{List, [], ◌∷◌, map}
 use borrow.Author.Tests.{ltb-true, ltb-false}
 use lib.Dec.{ltb, eqb}
 use lib.ListN.{length, get_or, replicate, length-map, length-set, get_or-eq_default}
+use Rattle.std.specs.Prelude.{Option, None}
 use Rattle.model.specs.declared.Effect.{Effect}
 use Rattle.model.specs.declared.Entry.{Entry}
 use Rattle.model.specs.declared.Monitor.{Monitor}
@@ -117,16 +118,33 @@ module _ (frame : List ℕ) (fit : BytesFit frame) where
 abbrev pub FitsOn : Phy → Phy → Type 0
 FitsOn x y = PhyFits x → PhyFits y
 
+-- the four places of what is stored: the monitors that are there fit
+abbrev pub StoredFit : List (Option Monitor) → Type 0
+StoredFit stored = (length stored ≡ 4) × All MonitorFits (stored_ones stored)
+
 -- what is done to a phy keeps that, and what may be stored of it fits
 abbrev pub EffectFits : Phy → Effect → Type 0
-EffectFits x e = PhyFits x → PhyFits e.phy × All MonitorFits (stored_ones e.stored)
+EffectFits x e = PhyFits x → PhyFits e.phy × StoredFit e.stored
 
 abbrev pub KeepsFit : (Phy → Effect) → Type 0
 KeepsFit f = (x : Phy) → EffectFits x (f x)
 
+marked_length : (marks : List Bool) (ms : List Monitor) → length marks ≡ length ms → length (marked marks ms) ≡ length ms
+marked_length [] [] long = refl
+marked_length [] (m ∷ ms) long = absurd (omega arith)
+marked_length (mark ∷ marks) [] long = absurd (omega arith)
+marked_length (mark ∷ marks) (m ∷ ms) long = ap suc (marked_length marks ms (omega arith))
+
 -- what is stored of a phy whose monitors fit, when those stand that are marked
-stored_fits : (marks : List Bool) (ms : List Monitor) → MonitorsFit ms → All MonitorFits (stored_ones (marked marks ms))
-stored_fits marks ms f = rw (stored_marked marks ms) (picked_all MonitorFits marks ms (each_all MonitorFits fresh_monitor ms f.1))
+stored_fits : (marks : List Bool) (ms : List Monitor) → length marks ≡ 4 → MonitorsFit ms → StoredFit (marked marks ms)
+stored_fits marks ms four f = (
+  marked_length marks ms (four ∙ sym f.0) ∙ f.0,
+  rw (stored_marked marks ms) (picked_all MonitorFits marks ms (each_all MonitorFits fresh_monitor ms f.1)),
+)
+
+-- a change, and a write that clears nothing, store nothing
+none_fit : StoredFit (replicate 4 None)
+none_fit = (refl, tt)
 
 -- other numbers in it, from what each keeps
 fits_with : (x : Phy) {enabled : Bool} {errors : List ℕ} {ms : List Monitor} {change0 expander1 expander2 : ℕ}
@@ -158,11 +176,11 @@ event_keeps source amount h x f =
     (times_fit (length (crossed source amount x.monitors)) x.expander1)
     (λ f. f)
     f in
-    (after, stored_fits (crossings source amount x.monitors) _ (after.monitors_size, after.monitors))
+    (after, stored_fits (crossings source amount x.monitors) _ (length-map x.monitors _ ∙ f.monitors_size) (after.monitors_size, after.monitors))
 
 pub change_keeps : (enabled : Bool) → KeepsFit (change_on enabled)
 unfolding change_on
-change_keeps enabled x f = (fits_with x (λ f. f) (λ f. f) (originated_fits true x.change0) (λ f. f) (λ f. f) f, tt)
+change_keeps enabled x f = (fits_with x (λ f. f) (λ f. f) (originated_fits true x.change0) (λ f. f) (λ f. f) f, none_fit)
 
 without_errors_keeps : (x : Phy) → FitsOn x (without_errors x)
 without_errors_keeps x = fits_with x (λ f. no_errors_fit) (λ f. f) (λ f. f) (λ f. f) (λ f. f)
@@ -180,8 +198,8 @@ controlled_all P operation x none change clear =
 
 pub control_keeps : (operation : ℕ) → KeepsFit (controlled operation)
 control_keeps operation x =
-    controlled_all (EffectFits x) operation x (λ f. (f, tt)) (λ enabled. change_keeps enabled x)
-    (λ f. (without_errors_keeps x f, tt))
+    controlled_all (EffectFits x) operation x (λ f. (f, none_fit)) (λ enabled. change_keeps enabled x)
+    (λ f. (without_errors_keeps x f, none_fit))
 
 set_keeps : (frame : List ℕ) → BytesFit frame → (d : ℕ) (x : Phy) → FitsOn x (set_on frame d x)
 unfolding set_on
@@ -194,14 +212,14 @@ clear_keeps x f = (
   fits_with x (λ f. f) (map_fits clear_monitor clear_fits x.monitors) (λ f. f) (λ f. f)
       (originated_fits (any_peak x.monitors) x.expander2)
       f,
-  stored_fits (peaks x.monitors) x.monitors (f.monitors_size, f.monitors),
+  stored_fits (peaks x.monitors) x.monitors (length-map x.monitors (λ m. peak m.source) ∙ f.monitors_size) (f.monitors_size, f.monitors),
 )
 
 pub configure_keeps : (frame : List ℕ) → BytesFit frame → (d : ℕ) (clear : Bool) → KeepsFit (configured frame d clear)
 unfolding configured
 configure_keeps frame fit d clear x =
     let set : FitsOn x (set_on frame d x) = set_keeps frame fit d x in
-    cond_both (EffectFits x) clear _ _ (λ f. clear_keeps (set_on frame d x) (set f)) (λ f. (set f, tt))
+    cond_both (EffectFits x) clear _ _ (λ f. clear_keeps (set_on frame d x) (set f)) (λ f. (set f, none_fit))
 
 -- ---- the stored peak events
 

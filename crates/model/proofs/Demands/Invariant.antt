@@ -52,7 +52,7 @@ count_fits before after (b, e) h = rw e (originated_fits b before h)
 stored_fit : (s : Shelf) → Fits s → (p : ℕ) (f : Phy → Effect) → T (exists s p) → KeepsFit f → All EntryFits (entries_of p (f (phy_at s p)))
 stored_fit s fits p f there keeps =
     let (_, below) = (exists_iff s p).0 there in
-    entries_fit p below (f (phy_at s p)) (keeps (phy_at s p) (fits.phys p below)).1
+    entries_fit p below (f (phy_at s p)) (keeps (phy_at s p) (fits.phys p below)).1.1
 
 module _ (s t : Shelf) (step : Step KeepsFit s t) where
   step_fits : Fits s → Fits t

@@ -9,6 +9,6 @@ pub overflow_cast-phy : goal.overflow_cast-phy
 overflow_cast-phy c =
     let a = c.args in
     let s = shelf_of a.words.now in
-    let taken = sym (rw c.there.ensures at c.event_taken.ensures) ∙ c.in_ok-event_taken.was in
+    let taken = sym (rw c.there.ensures at c.event_taken-taken.ensures) ∙ c.in-Ok.is in
     let below : a.phy < 24 = ((exists_iff s a.phy).0 ((event_done s a.phy a.source a.amount).0 taken).phy_exists).1 in
     record { fits = omega arith }
