@@ -4,3 +4,5 @@ pub mod Left
 pub mod Settled
 -- What the readings with flags told, as they were before docs/DESIGN-PASS.md, is told still.
 pub mod Flagged
+-- .. and what they told while they gave an `Option`, too.
+pub mod Fitting

@@ -2,3 +2,5 @@
 pub mod Text
 pub mod Line
 pub mod Report
+-- What the readings gave while they gave an `Option`.
+pub mod Fitting

@@ -136,11 +136,12 @@ marked_length (mark ∷ marks) [] long = absurd (omega arith)
 marked_length (mark ∷ marks) (m ∷ ms) long = ap suc (marked_length marks ms (omega arith))
 
 -- what is stored of a phy whose monitors fit, when those stand that are marked
-stored_fits : (marks : List Bool) (ms : List Monitor) → length marks ≡ 4 → MonitorsFit ms → StoredFit (marked marks ms)
-stored_fits marks ms four f = (
-  marked_length marks ms (four ∙ sym f.0) ∙ f.0,
-  rw (stored_marked marks ms) (picked_all MonitorFits marks ms (each_all MonitorFits fresh_monitor ms f.1)),
-)
+stored_fits : (marks : List Bool) (ms : List Monitor) → MonitorsFit ms → All MonitorFits (stored_ones (marked marks ms))
+stored_fits marks ms f = rw (stored_marked marks ms) (picked_all MonitorFits marks ms (each_all MonitorFits fresh_monitor ms f.1))
+
+-- .. in four places, by four marks
+four_fit : (marks : List Bool) (ms : List Monitor) → length marks ≡ 4 → MonitorsFit ms → StoredFit (marked marks ms)
+four_fit marks ms four f = (marked_length marks ms (four ∙ sym f.0) ∙ f.0, stored_fits marks ms f)
 
 -- a change, and a write that clears nothing, store nothing
 none_fit : StoredFit (replicate 4 None)
@@ -176,7 +177,7 @@ event_keeps source amount h x f =
     (times_fit (length (crossed source amount x.monitors)) x.expander1)
     (λ f. f)
     f in
-    (after, stored_fits (crossings source amount x.monitors) _ (length-map x.monitors _ ∙ f.monitors_size) (after.monitors_size, after.monitors))
+    (after, four_fit (crossings source amount x.monitors) _ (length-map x.monitors _ ∙ f.monitors_size) (after.monitors_size, after.monitors))
 
 pub change_keeps : (enabled : Bool) → KeepsFit (change_on enabled)
 unfolding change_on
@@ -212,7 +213,7 @@ clear_keeps x f = (
   fits_with x (λ f. f) (map_fits clear_monitor clear_fits x.monitors) (λ f. f) (λ f. f)
       (originated_fits (any_peak x.monitors) x.expander2)
       f,
-  stored_fits (peaks x.monitors) x.monitors (length-map x.monitors (λ m. peak m.source) ∙ f.monitors_size) (f.monitors_size, f.monitors),
+  four_fit (peaks x.monitors) x.monitors (length-map x.monitors (λ m. peak m.source) ∙ f.monitors_size) (f.monitors_size, f.monitors),
 )
 
 pub configure_keeps : (frame : List ℕ) → BytesFit frame → (d : ℕ) (clear : Bool) → KeepsFit (configured frame d clear)
