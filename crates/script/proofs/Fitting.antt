@@ -1,6 +1,6 @@
 -- Nothing is lost that the readings told while they gave an `Option` (specs/Fitting.antt): `.ok()` of a reading of today is the reading of
 -- then, and what a line is, its end and how many times it says are the same. Assumes nothing.
-use Rattle.std.specs.Prelude.{ℕ, ◌+◌, not, Bool, true, false, ◌&&◌, ◌||◌, cond, List, [], ◌∷◌, ◌++◌, leb, ltb, eqb, length, drop, get_or}
+use Rattle.std.specs.Prelude.{ℕ, ◌+◌, not, Bool, true, false, ◌&&◌, cond, List, [], ◌∷◌, ◌++◌, leb, ltb, eqb, length, drop, get_or}
 use Rattle.std.specs.Prelude.{Option, None, Some, is_some, unwrap_or, option_map, option_and_then, Result, Ok, Err, is_ok}
 use Rattle.std.specs.Option.{option_map_or, option_or}
 use Rattle.std.specs.Result.{result_ok, result_or, result_map_both, result_unwrap_or}
@@ -9,14 +9,13 @@ use Rattle.std.proofs.Common.{◌≡◌, refl, ap, ◌∙◌}
 use Rattle.model.specs.Bytes.{byte, text}
 use Rattle.model.specs.Server.{least_buffer}
 use Rattle.model.specs.Tests.{check, given}
-use Rattle.script.specs.declared.line.Line.{Line}
-use Rattle.script.specs.declared.line.Line.TheVariants.{Heading, Request, Reach, Report, Idle}
 use Rattle.script.specs.declared.text.Reading.{Reading}
 use Rattle.script.specs.Fitting as then
 use Rattle.script.specs.Line.{line_kind, asked, told, untold, read_asked, byte_of, read_hex}
 use Rattle.script.specs.Report.{read_times}
 use Rattle.script.specs.Text.{reading, unread, digits, read_number, read_byte, read_one, either, read_on, read, whole, read_whole}
 
+-- what one byte of a form stands for
 number_fits : (line : List ℕ) (from : Reading) (base : ℕ) → result_ok (read_number line from base) ≡ then.read_number line from base
 unfolding read_number then.read_number
 number_fits line from base =
@@ -55,6 +54,7 @@ unfolding read_on
 misfit line from [] = refl
 misfit line from (one ∷ form) = misfit line (either (read_one line from one)) form
 
+-- a form
 pub read_fits : (line : List ℕ) (from : Reading) (form : List ℕ) → result_ok (read line from form) ≡ then.read line from form
 unfolding read_on then.read
 read_fits line from [] = refl
@@ -66,6 +66,7 @@ read_fits line from (one ∷ form) = go (λ next. read_fits line next form) (rea
     go rest (Ok next) is = rw (← is) (rest next)
     go rest (Err next) is = rw (← is) (misfit line next form)
 
+-- .. and to the end of the line
 pub whole_fits : (line : List ℕ) (from : Reading) (form : List ℕ) → read_whole line from form ≡ then.read_whole line from form
 whole_fits line from form = rw (← read_fits line from form) (go (read line from form))
   where
@@ -74,22 +75,16 @@ whole_fits line from form = rw (← read_fits line from form) (go (read line fro
     go (Ok next) = refl
     go (Err next) = refl
 
+-- what a line is: its remark fits or does not
 pub kind_fits : (line : List ℕ) → line_kind line ≡ then.line_kind line
 unfolding line_kind then.line_kind
-kind_fits line = rw (← read_fits line unread (text "  - ")) (ap of_remark (go (read line unread (text "  - "))))
+kind_fits line = rw (go (read line unread (text "  - ")), read_fits line unread (text "  - ")) refl
   where
-    of_remark : Bool → Line
-    of_remark remark =
-        given (eqb (length line) 0 || remark) Idle
-        (given (not (eqb (byte line 0) 0x20)) Heading
-        (given (eqb (byte line 2) 0x66) Request
-        (given (eqb (byte line 2) 0x72) Reach
-        Report)))
-
     go : (now : Result Reading Reading) → is_ok now ≡ is_some (result_ok now)
     go (Ok next) = refl
     go (Err next) = refl
 
+-- one byte of a frame
 pub hex_fits : (line : List ℕ) (from : Reading) → result_ok (read_hex line from) ≡ then.read_hex line from
 unfolding read_hex then.read_hex
 hex_fits line from = rw (← read_fits line from (text " $")) (go (read line from (text " $")))
@@ -103,6 +98,7 @@ hex_fits line from = rw (← read_fits line from (text " $")) (go (read line fro
         by false = refl
     go (Err next) = refl
 
+-- how many times a report is made
 pub times_fits : (line : List ℕ) (from : Reading) → read_times line from ≡ then.read_times line from
 unfolding read_times then.read_times
 times_fits line from = rw (← read_fits line from (text "# times: ")) (go (read line from (text "# times: ")))
@@ -131,6 +127,7 @@ BeforeLast n None = Unit {0}
 BeforeLast n (Some next) = next.second ≡ n
 
 module _ (line : List ℕ) where
+  -- a byte that stands for itself leaves the numbers
   byte_kept : (from : Reading) (byte : ℕ) → Kept from (then.read_byte line from byte)
   unfolding then.read_byte
   byte_kept from byte = go (ltb from.at (length line) && eqb (get_or line from.at 0) byte)
@@ -139,10 +136,12 @@ module _ (line : List ℕ) where
       go true = (refl, refl)
       go false = tt
 
+  -- step by step
   kept_on : (from next : Reading) → Kept from (Some next) → (last : Option Reading) → Kept next last → Kept from last
   kept_on from next is None on = tt
   kept_on from next is (Some last) on = (on.0 ∙ is.0, on.1 ∙ is.1)
 
+  -- so does a form without numbers
   plain_kept : (form : List ℕ) → plain form ≡ true → (from : Reading) → Kept from (then.read line from form)
   unfolding then.read then.read_one
   plain_kept [] bare from = (refl, refl)
@@ -162,11 +161,12 @@ module _ (line : List ℕ) where
       go rest false true bare = absurd (false≢true bare)
       go rest false false bare = on rest bare (then.read_byte line from one) (byte_kept from one)
 
-  if_split : (from : Reading) (a b : List ℕ)
+  -- a form in two parts is read by one and then by the other
+  parts_read : (from : Reading) (a b : List ℕ)
       → then.read line from (a ++ b) ≡ option_and_then (λ next. then.read line next b) (then.read line from a)
   unfolding then.read
-  if_split from [] b = refl
-  if_split from (one ∷ a) b = go (λ next. if_split next a b) (then.read_one line from one)
+  parts_read from [] b = refl
+  parts_read from (one ∷ a) b = go (λ next. parts_read next a b) (then.read_one line from one)
     where
       go : ((next : Reading) → then.read line next (a ++ b) ≡ option_and_then (λ next. then.read line next b) (then.read line next a))
           → (next : Option Reading)
@@ -175,6 +175,7 @@ module _ (line : List ℕ) where
       go rest None = refl
       go rest (Some next) = rest next
 
+  -- the length of the buffer, after which the last number of before is the last but one, and the colon
   length_past : (source now : Reading) → Kept source (Some now) → BeforeLast source.third (then.read line now (text "#:"))
   unfolding then.read then.read_one then.read_number
   length_past source now is = let number = digits 10 (drop now.at line) 0 0 in
@@ -189,9 +190,10 @@ module _ (line : List ℕ) where
       go true next at = tt
       go false next at = colon next at (then.read line next (text ":")) (plain_kept (text ":") refl next)
 
+  -- both
   told_source : (source : Reading) → BeforeLast source.third (then.read line source (text ", buffer of #:"))
   told_source source =
-      rw (if_split source (text ", buffer of ") (text "#:"))
+      rw (parts_read source (text ", buffer of ") (text "#:"))
       (go (then.read line source (text ", buffer of ")) (plain_kept (text ", buffer of ") refl source))
     where
       go : (now : Option Reading) → Kept source now
@@ -199,6 +201,7 @@ module _ (line : List ℕ) where
       go None is = tt
       go (Some now) is = length_past source now is
 
+  -- so what is asked has the source group from before the length of the buffer in either definition
   pub asked_fits : (from : Reading) → result_ok (read_asked line from) ≡ then.read_asked line from
   unfolding read_asked then.read_asked then.read_asked_of
   asked_fits from = rw (← read_fits line from (text "from #")) (go (read line from (text "from #")))
